@@ -1,55 +1,9 @@
 /* Tries what no clause says of the library for C: that C reaches it, that calls succeed, that no block is lost over many of them, and that
  * each request for memory may be refused. Silent where all is as it should be. Linked with --wrap for malloc, realloc and free. */
 #include "cutterash.h"
+#include "refusing.h"
 
-#include <stdio.h>
-#include <stdlib.h>
 #include <string.h>
-
-static int failed = 0;
-
-#define HOLDS(what)                                                    \
-    do {                                                               \
-        if (!(what)) {                                                 \
-            fprintf(stderr, "line %d: not so: %s\n", __LINE__, #what); \
-            failed = 1;                                                \
-        }                                                              \
-    } while (0)
-
-/* Requests for memory that are given before one is refused; none is where this is negative. */
-static long given = -1;
-
-/* Blocks that are in use. */
-static long in_use = 0;
-
-void *__real_malloc(size_t size);
-void *__real_realloc(void *block, size_t size);
-void __real_free(void *block);
-
-static bool is_refused(void) {
-    if (given == 0)
-        return true;
-    if (given > 0)
-        given--;
-    return false;
-}
-
-void *__wrap_malloc(size_t size) {
-    void *block = is_refused() ? NULL : __real_malloc(size);
-    in_use += block != NULL;
-    return block;
-}
-
-void *__wrap_realloc(void *old, size_t size) {
-    void *block = is_refused() ? NULL : __real_realloc(old, size);
-    in_use += block != NULL && old == NULL;
-    return block;
-}
-
-void __wrap_free(void *block) {
-    in_use -= block != NULL;
-    __real_free(block);
-}
 
 static struct cutterash_reply compile(const char *text, uint8_t *room, size_t length) {
     return cutterash_compile((const uint8_t *)text, strlen(text), room, length);

@@ -13,6 +13,10 @@ import subprocess
 import sys
 
 TOP = os.path.dirname(os.path.dirname(os.path.abspath(__file__)))
+sys.path.insert(0, f"{TOP}/.ci")
+sys.dont_write_bytecode = True
+from built import PROGRAM, all_right
+
 MAGIC = b"EMSC"
 RESERVED = set(
     "after and andalso band begin bnot bor bsl bsr bxor case catch cond div else end fun if let maybe not of or orelse receive rem try when "
@@ -475,7 +479,7 @@ def rows_of_judge():
 
 
 def main(words):
-    program = words[0] if words else f"{TOP}/crates/ets_tool/out/ets_tool"
+    program = words[0] if words else PROGRAM
     each = int(words[1]) if len(words) > 1 else 1
     rows = [*rows_of_queries(), *rows_of_scripts(), *rows_of_judge()]
     texts = list(dict.fromkeys(f"{term.text}.\n" for term in rows))[::each]
@@ -485,7 +489,7 @@ def main(words):
         return 1
     with ThreadPoolExecutor(os.cpu_count()) as pool:
         right = list(pool.map(lambda it: (file_agrees if it.startswith("<<") else specification_agrees)(program, it), texts))
-    return 0 if all(right) else 1
+    return 0 if all_right("listings", right) else 1
 
 
 sys.setrecursionlimit(20000)

@@ -2,6 +2,12 @@
 _ets_tool() {
     local word=${COMP_WORDS[COMP_CWORD]} before=${COMP_WORDS[COMP_CWORD - 1]}
     COMPREPLY=()
+    # bash takes --kind=set for three words.
+    if [ "$word" = = ]; then
+        word=
+    elif [ "$before" = = ] && [ "$COMP_CWORD" -gt 2 ]; then
+        before=${COMP_WORDS[COMP_CWORD - 2]}
+    fi
     if [ "$COMP_CWORD" = 1 ]; then
         mapfile -t COMPREPLY < <(compgen -W 'run test compile verify script shell scan explain help --help --version' -- "$word")
     elif [ "$COMP_CWORD" = 2 ] && [ "$before" = help ]; then

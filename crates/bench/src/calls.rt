@@ -1,4 +1,4 @@
-//! Calls of a session at a table, one for each object, and walks through the table.
+//! Calls of a session at a table, one with each object, and walks through the table.
 ghost use Rattle.std.specs.Prelude.{◌≡◌};
 
 use machine::run;
@@ -9,7 +9,7 @@ use tables::{Turns, delete, insert, lookup, member};
 use term_core::{Refused, Term};
 use walks::{Query, Step, select, select_count, select_limit, select_more};
 
-/// The most answers of a piece.
+/// The maximal number of answers of a piece.
 const PIECE: u64 = 100;
 
 /// A call with an object, or at its key.
@@ -21,23 +21,23 @@ pub(crate) enum Call {
     Delete,
 }
 
-/// What is timed.
+/// Work that is timed.
 #[derive(Clone, Copy)]
 pub(crate) enum Work {
     /// A call with each object.
     Each(Call),
-    /// The code of the query with conditions runs on each object.
+    /// A run of the code of the query with conditions on each object.
     Run,
-    /// Counting all objects.
+    /// A count of all objects.
     Count,
-    /// All answers of the query with conditions.
+    /// A selection of all answers of the query with conditions.
     Select,
-    /// Its answers in pieces.
+    /// A selection of the answers of the query with conditions, in pieces.
     Pieces,
 }
 
-/// What the work is done on: objects with their keys at the first place, the query that counts all, and one with
-/// conditions beside its specification.
+/// What the work is done with: objects with their keys at the first position, the query that counts all, and the query
+/// with conditions with its specification.
 #[derive(Clone, Copy)]
 pub(crate) struct Load<'a> {
     pub(crate) objects: &'a [Term],
@@ -46,12 +46,12 @@ pub(crate) struct Load<'a> {
     pub(crate) specification: &'a Spec,
 }
 
-/// How many objects an insert puts in.
+/// Returns how many objects an insert inserted.
 fn put(inserted: Result<(), Refused<Term, Fault>>) -> usize {
     usize::from(inserted.is_ok())
 }
 
-/// How many objects a lookup finds.
+/// Returns how many objects a lookup found.
 fn found(objects: Result<Vec<Term>, AllocError>) -> usize {
     match objects {
         Ok(objects) => objects.len(),
@@ -59,7 +59,8 @@ fn found(objects: Result<Vec<Term>, AllocError>) -> usize {
     }
 }
 
-/// Makes a call, and says how many objects it puts in or finds: none of a term that is no object, since it has no key.
+/// Makes a call, and returns how many objects it inserts or finds. Returns 0 for a term that is no object, since it has
+/// no key, and `None` if memory runs out.
 fn made<T: Turns<Global>>(session: &mut T, call: Call, object: &Term) -> Option<usize>
     requires { T.is_ready session.old }
     ensures ready { T.is_ready session.new }
@@ -79,7 +80,7 @@ fn made<T: Turns<Global>>(session: &mut T, call: Call, object: &Term) -> Option<
     }
 }
 
-/// Makes a call with each object, and says how many it puts in or finds.
+/// Makes a call with each object, and returns how many it inserts or finds.
 fn made_with_each<T: Turns<Global>>(session: &mut T, call: Call, objects: &[Term]) -> Option<usize>
     requires { T.is_ready session.old }
     ensures ready { T.is_ready session.new }
@@ -92,7 +93,7 @@ fn made_with_each<T: Turns<Global>>(session: &mut T, call: Call, objects: &[Term
     Some(count)
 }
 
-/// Runs the code of a query on each object, and says on how many it answers.
+/// Runs the code of a query on each object, and returns on how many there is an answer.
 fn run_on_each(alloc: Global, query: &Query, objects: &[Term]) -> Option<u64> {
     let mut count: u64 = 0;
     for object in objects {
@@ -102,7 +103,7 @@ fn run_on_each(alloc: Global, query: &Query, objects: &[Term]) -> Option<u64> {
     Some(count)
 }
 
-/// How many answers the pieces of a walk have, of which there are at most so many.
+/// Returns how many answers the pieces of a walk have, or `None` if there are more than `most` pieces.
 fn in_pieces<T: Turns<Global>>(
     alloc: Global,
     session: &mut T,
@@ -128,7 +129,7 @@ fn in_pieces<T: Turns<Global>>(
     None
 }
 
-/// Does the work, and says how many objects it puts in, finds, counts or answers on.
+/// Does the work, and returns how many objects it inserts, finds, counts or answers.
 pub(crate) fn done<T: Turns<Global>>(
     alloc: Global,
     session: &mut T,

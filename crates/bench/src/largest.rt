@@ -1,21 +1,21 @@
-//! The largest code, which the verifier takes longest for.
+//! The largest code, for which the verifier takes longest.
 use mcode::{Builder, Code, Frame, Instr, Places, Slots};
 use std::alloc::Global;
 use verifier::verify;
 
-/// The most instructions that code has.
+/// The maximal number of instructions of code.
 const INSTRUCTIONS: u16 = 65_535;
 
-/// The most slots that code has.
+/// The maximal number of slots of code.
 const SLOTS: u16 = 256;
 
-/// How many instructions bind all slots.
+/// The number of instructions that bind all slots.
 const BINDINGS: u16 = 2 * SLOTS;
 
-/// How many groups of three instructions there is room for behind them, before the last.
+/// The number of groups of three instructions that fit after them, before the last instruction.
 const GROUPS: u16 = (INSTRUCTIONS - BINDINGS - 1) / 3;
 
-/// A frame of no places in which all slots are bound.
+/// Returns a frame without places in which all slots are bound.
 fn frame(alloc: Global, pc: u16) -> Option<Frame> {
     let mut slots = Vec::new(alloc);
     for slot in 0..=u8::MAX {
@@ -29,7 +29,7 @@ fn frame(alloc: Global, pc: u16) -> Option<Frame> {
     })
 }
 
-/// Binds all slots to the object.
+/// Appends instructions that bind all slots to the object.
 fn bind_all(code: &mut Builder) -> Option<()> {
     for slot in 0..=u8::MAX {
         code.instr(Instr::Load).ok()?;
@@ -38,7 +38,8 @@ fn bind_all(code: &mut Builder) -> Option<()> {
     Some(())
 }
 
-/// A test of the object for a list, which jumps to the frame of the instruction behind it, of this number.
+/// Appends a test whether the object is a list, which jumps to the frame of the instruction after it, with the number
+/// `next`.
 fn group(alloc: Global, code: &mut Builder, next: u16) -> Option<()> {
     code.instr(Instr::Load).ok()?;
     code.instr(Instr::Cons { otherwise: next }).ok()?;
@@ -46,7 +47,7 @@ fn group(alloc: Global, code: &mut Builder, next: u16) -> Option<()> {
     code.frame(frame(alloc, next)?).ok()
 }
 
-/// As much code as there may be, with a frame behind each group of three instructions.
+/// Returns the largest code, with a frame after each group of three instructions.
 fn framed_at_each_third(alloc: Global) -> Option<Code> {
     let mut code = Builder::new(alloc, SLOTS).ok()?;
     bind_all(&mut code)?;
@@ -57,13 +58,13 @@ fn framed_at_each_third(alloc: Global) -> Option<Code> {
     Some(code.finish())
 }
 
-/// A jump to the frame of the next instruction, of this number.
+/// Appends a jump to the frame of the next instruction, with the number `target`.
 fn jump(alloc: Global, code: &mut Builder, target: u16) -> Option<()> {
     code.instr(Instr::Jump { target }).ok()?;
     code.frame(frame(alloc, target)?).ok()
 }
 
-/// As much code as there may be, with a frame at each instruction that follows a jump.
+/// Returns the largest code, with a frame at each instruction that follows a jump.
 fn framed_at_each(alloc: Global) -> Option<Code> {
     let mut code = Builder::new(alloc, SLOTS).ok()?;
     bind_all(&mut code)?;
@@ -74,17 +75,17 @@ fn framed_at_each(alloc: Global) -> Option<Code> {
     Some(code.finish())
 }
 
-/// The budget of code, none where it isn't typed.
+/// Returns the budget of code, or `None` if it is not typed.
 pub(crate) fn budget_of(alloc: Global, code: Code) -> Option<u64> {
     Some(u64::from(verify(alloc, code).ok()?.budget()))
 }
 
-/// The budget of the largest code with a frame at each third instruction.
+/// Returns the budget of the largest code with a frame at each third instruction.
 pub(crate) fn budget_framed_at_each_third(alloc: Global) -> Option<u64> {
     budget_of(alloc, framed_at_each_third(alloc)?)
 }
 
-/// The budget of the largest code with a frame at nearly each instruction.
+/// Returns the budget of the largest code with a frame at nearly each instruction.
 pub(crate) fn budget_framed_at_each(alloc: Global) -> Option<u64> {
     budget_of(alloc, framed_at_each(alloc)?)
 }

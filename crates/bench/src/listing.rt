@@ -7,7 +7,7 @@ use term_core::Term;
 use term_text::write_term;
 use verifier::Verified;
 
-/// The text of a term.
+/// Returns the text of a term.
 fn text_of(alloc: Global, term: &Term) -> Option<String> {
     let mut text = Vec::new(alloc);
     write_term(term, &mut text).ok()?;
@@ -54,7 +54,7 @@ fn write_code(alloc: Global, code: &Code, lines: &mut String) -> Option<()> {
     write_frames(code.frames(), lines)
 }
 
-/// Writes the lines of verified code, above them its slots, its budget and its depth.
+/// Writes the lines of verified code, after a line with its slots, its budget and its depth.
 fn write_verified(alloc: Global, verified: &Verified, lines: &mut String) -> Option<()> {
     let slots = verified.code().slots();
     let budget = verified.budget();

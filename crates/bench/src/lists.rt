@@ -1,4 +1,4 @@
-//! What an object takes in a list that several threads answer, and by one machine alone.
+//! The time of an object in a list that several threads answer, and by one machine alone.
 use crate::reading::specification;
 use crate::timing::{ROUNDS, median, since};
 use compiler::compile;
@@ -13,7 +13,7 @@ use term_core::Term;
 use term_text::read_terms;
 use verifier::Verified;
 
-/// The specification that is asked of each object.
+/// The specification that is evaluated on each object.
 pub(crate) const SOME: &[u8] = b"[{{'$1','$2','_'},[{'>=','$1',1},{'<','$2',5}],['$2']}].";
 
 /// How a list is answered.
@@ -25,17 +25,17 @@ enum Work {
     Plain,
 }
 
-/// The code of `SOME`.
+/// Returns the code of `SOME`.
 fn code(alloc: Global) -> Option<Verified> {
     compile(alloc, &specification(alloc, SOME)?).ok()
 }
 
-/// The atom of each object.
+/// Returns the atom that each object has.
 fn atom(alloc: Global) -> Option<Term> {
     read_terms(alloc, b"a.").ok()?.pop()
 }
 
-/// The object of a number.
+/// Returns the object with this number.
 fn object(alloc: Global, number: i64, atom: &Term) -> Option<Term> {
     let mut elements = Vec::new(alloc);
     let is_whole = put(&mut elements, Term::int(number))
@@ -48,7 +48,7 @@ fn object(alloc: Global, number: i64, atom: &Term) -> Option<Term> {
     }
 }
 
-/// Puts the object of a number behind others; false for want of memory.
+/// Appends the object with this number; returns `false` if memory runs out.
 fn put_object(alloc: Global, number: i64, atom: &Term, objects: &mut Vec<Term>) -> bool {
     match object(alloc, number, atom) {
         Some(object) => put(objects, object),
@@ -56,7 +56,7 @@ fn put_object(alloc: Global, number: i64, atom: &Term, objects: &mut Vec<Term>) 
     }
 }
 
-/// So many objects with an atom.
+/// Returns `count` objects with this atom.
 fn objects_with(alloc: Global, count: u32, atom: &Term) -> Option<Vec<Term>> {
     let mut objects = Vec::new(alloc);
     let mut is_whole = true;
@@ -67,12 +67,12 @@ fn objects_with(alloc: Global, count: u32, atom: &Term) -> Option<Vec<Term>> {
     if is_whole { Some(objects) } else { None }
 }
 
-/// So many objects.
+/// Returns `count` objects.
 pub(crate) fn objects(alloc: Global, count: u32) -> Option<Vec<Term>> {
     objects_with(alloc, count, &atom(alloc)?)
 }
 
-/// How many of these are answers.
+/// Returns how many of these are answers.
 fn count(answers: &[Option<Term>]) -> usize {
     let mut count: usize = 0;
     for answer in answers {
@@ -83,7 +83,7 @@ fn count(answers: &[Option<Term>]) -> usize {
     count
 }
 
-/// Puts the answers of a machine behind others.
+/// Appends the answers of a machine.
 fn answer<'a>(
     machine: &mut Machine<'a, '_>,
     objects: &'a [Term],
@@ -96,7 +96,7 @@ fn answer<'a>(
     Some(())
 }
 
-/// The answers of one machine.
+/// Returns the answers of one machine.
 fn plain(alloc: Global, code: &Verified, objects: &[Term]) -> Option<Vec<Option<Term>>> {
     let mut machine = Machine::new(&alloc, code).ok()?;
     let mut answers = Vec::with_capacity(alloc, objects.len()).ok()?;
@@ -106,7 +106,7 @@ fn plain(alloc: Global, code: &Verified, objects: &[Term]) -> Option<Vec<Option<
     Some(answers)
 }
 
-/// The answers on objects.
+/// Returns the answers on objects, by several threads or by one machine.
 fn answered<H: Threads + Sync>(
     rt: &HostRuntime,
     handle: &H,
@@ -120,7 +120,7 @@ fn answered<H: Threads + Sync>(
     }
 }
 
-/// How many objects are answered.
+/// Returns on how many objects there is an answer.
 fn found<H: Threads + Sync>(
     rt: &HostRuntime,
     handle: &H,
@@ -132,7 +132,7 @@ fn found<H: Threads + Sync>(
     Some(count(answers.as_slice()))
 }
 
-/// The nanoseconds that the work takes once, without letting go of the answers.
+/// Returns the nanoseconds that the work takes once, without the time to drop the answers.
 fn once<H: Threads + Sync>(
     rt: &HostRuntime,
     handle: &H,
@@ -150,7 +150,7 @@ fn once<H: Threads + Sync>(
     }
 }
 
-/// The median of the nanoseconds that the work takes.
+/// Returns the median of the nanoseconds that the work takes.
 fn timed<H: Threads + Sync>(
     rt: &HostRuntime,
     handle: &H,
@@ -165,7 +165,7 @@ fn timed<H: Threads + Sync>(
     Some(median(rounds))
 }
 
-/// Writes the line of the nanoseconds that the objects take, in a list and by one machine.
+/// Writes the line with the nanoseconds for an object, in a list and by one machine.
 pub(crate) fn write_times<H: Threads + Sync>(
     rt: &HostRuntime,
     handle: &H,
@@ -179,7 +179,7 @@ pub(crate) fn write_times<H: Threads + Sync>(
     writeln!(lines, "list {list} ns, one machine {plain} ns").ok()
 }
 
-/// Writes the line of how many objects have an answer.
+/// Writes the line with the number of objects that have an answer.
 pub(crate) fn write_found<H: Threads + Sync>(
     rt: &HostRuntime,
     handle: &H,

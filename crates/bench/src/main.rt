@@ -1,14 +1,15 @@
-//! Times the engine from outside: the scripts of `bench/` run this program. The first argument says of what:
+//! Measures the engine from outside: the scripts of `bench/` run this program. The first argument says what is
+//! measured:
 //!
-//! - `files`: a code file decoded, encoded and verified (`files`), or the largest code (`largest`).
+//! - `files`: a code file decoded, encoded and verified (`files`), or the largest code verified (`largest`).
 //! - `machine`: a specification compiled, run and evaluated on objects (`runs`), or its code as a list (`listing`).
 //! - `tables`: the calls of a session at a table that one thread uses (`on_table`, with `calls` and `times`).
 //! - `parallel`: selections by several threads, over a list (`lists`) and over a table (`parts`).
 //! - `threads`: inserts and lookups of sessions on threads of their own (`on_threads`, with `phases` and `rounds`).
-//! - `each`: the largest code with a frame at every third instruction, and the code of a specification; and what
-//!   `tables` finds at a set, `parallel` of 5,000 objects, and `threads` by two sessions at four parts. Nothing is timed.
+//! - `each`: not timed. The largest code with a frame at every third instruction; the code of a specification; and what
+//!   `tables` finds at a set, `parallel` with 5,000 objects, and `threads` with two sessions and four parts.
 //!
-//! `reading` is what standard input has, and queries of a text; `timing` the clock and medians.
+//! `reading` reads standard input, and specifications and queries of a text; `timing` has the clock and medians.
 #![tactic(auto)]
 
 mod calls;
@@ -34,20 +35,20 @@ use std::thread::Threads;
 use std::time::Clock;
 use term_core::Term;
 
-/// How many objects there are of which `each` asks how many are answered.
+/// The number of objects with which `each` runs `parallel`.
 const OBJECTS: u32 = 5_000;
 
-/// Writes the line of a budget.
+/// Writes the line with a budget.
 fn write_budget(budget: u64, lines: &mut String) -> Option<()> {
     writeln!(lines, "{budget}").ok()
 }
 
-/// Writes the line of the budget of the largest code with a frame at every third instruction.
+/// Writes the line with the budget of the largest code with a frame at every third instruction.
 fn write_third(rt: &HostRuntime, lines: &mut String) -> Option<()> {
     write_budget(largest::budget_framed_at_each_third(rt.alloc())?, lines)
 }
 
-/// Writes the lines of code that a word asks for.
+/// Writes the lines about code that a word requests.
 fn write_files(rt: &HostRuntime, words: &[String], lines: &mut String) -> Option<()> {
     let [word] = words else {
         return None;
@@ -60,7 +61,7 @@ fn write_files(rt: &HostRuntime, words: &[String], lines: &mut String) -> Option
     }
 }
 
-/// Writes the lines of a specification that a word asks for.
+/// Writes the lines about a specification that a word requests.
 fn write_machine(rt: &HostRuntime, words: &[String], lines: &mut String) -> Option<()> {
     let [word] = words else {
         return None;
@@ -73,7 +74,7 @@ fn write_machine(rt: &HostRuntime, words: &[String], lines: &mut String) -> Opti
     }
 }
 
-/// Writes how many of so many objects are answered, in a list and in a table.
+/// Writes how many of `count` objects have an answer, in a list and in a table.
 fn write_found<H: Threads + Wait + Sync>(
     rt: &HostRuntime,
     handle: &H,
@@ -84,7 +85,7 @@ fn write_found<H: Threads + Wait + Sync>(
     parts::write_found(rt, handle, count, lines)
 }
 
-/// Writes the lines of selections by several threads that these words ask for.
+/// Writes the lines about selections by several threads that these words request.
 fn write_parallel<H: Threads + Wait + Sync>(
     rt: &HostRuntime,
     handle: &H,
@@ -103,7 +104,7 @@ fn write_parallel<H: Threads + Wait + Sync>(
     }
 }
 
-/// Writes what each finds, of a specification and of objects.
+/// Writes what each measurement finds with a specification and objects.
 fn write_all_of<H: Threads + Wait + Clock + Sync>(
     rt: &HostRuntime,
     handle: &H,
@@ -118,7 +119,7 @@ fn write_all_of<H: Threads + Wait + Clock + Sync>(
     on_threads::write(handle, rt.alloc(), on_threads::FOUND, objects, lines)
 }
 
-/// Writes what each finds of standard input, a specification and objects.
+/// Writes what each measurement finds with standard input, a specification and objects.
 fn write_each<H: Threads + Wait + Clock + Sync>(
     rt: &HostRuntime,
     handle: &H,
@@ -129,7 +130,7 @@ fn write_each<H: Threads + Wait + Clock + Sync>(
     write_all_of(rt, handle, specification, objects, lines)
 }
 
-/// Writes the lines of what the arguments ask for. There are none where they ask for nothing, or it can't be done.
+/// Writes the lines that the arguments request. Returns `None` if they request nothing, or it can't be done.
 fn write_lines<H: Threads + Wait + Clock + Sync>(
     rt: &HostRuntime,
     handle: &H,
@@ -154,7 +155,7 @@ fn write_lines<H: Threads + Wait + Clock + Sync>(
     }
 }
 
-/// How the program is called.
+/// How to call the program.
 const USAGE: &str = "usage: bench files file < CODE_FILE
        bench files third|each
        bench machine objects|code < TERMS, of which the first is a specification

@@ -1,15 +1,16 @@
 //! The calls of a session at a table that one thread uses.
 //!
-//! Standard input is objects with their keys at the first place. They are put into a table of a kind and of so many
-//! parts, put in once more, looked up, asked for, counted by a query, selected by one with two conditions, at once and
-//! in pieces of 100, and deleted. The code of that query runs on each object, too, for what a selection takes beside
-//! its runs.
+//! Standard input is objects with their keys at the first position. They are inserted into a table of a kind and a
+//! number of parts, inserted again, looked up, and tested for membership. Then they are counted by a query, selected by
+//! a query with two conditions, at once and in pieces of 100, and deleted. The code of that query also runs on each
+//! object, to show what a selection takes apart from its runs.
 //!
 //! - `times`: the nanoseconds of a call of each kind, the median of five rounds; those of a walk are divided by the
-//!   objects.
+//!   number of objects.
 //! - `longest`: the nanoseconds of the longest insert.
-//! - `hold`: nothing; the objects are put into as many tables as the last argument says, which are held until the end.
-//! - `found`: what comes of each kind of call.
+//! - `hold`: nothing; the objects are inserted into as many tables as the last argument says, which all exist until the
+//!   end.
+//! - `found`: the result of each kind of call.
 use crate::calls::Load;
 use crate::reading::{query, specification};
 use crate::times;
@@ -20,12 +21,12 @@ use std::alloc::Global;
 use tables::Options;
 use term_core::Term;
 
-/// The specification that is true of all objects.
+/// A specification whose answer is true on all objects.
 const ALL: &[u8] = b"[{'_',[],[true]}].";
-/// One with two conditions.
+/// A specification with two conditions.
 const SOME: &[u8] = b"[{{'$1','$2','_'},[{'>=','$1',1},{'<','$2',900000}],['$2']}].";
 
-/// What is done at which table, and at how many.
+/// What is done, at which table, and at how many.
 #[derive(Clone, Copy)]
 pub(crate) struct Task<'a> {
     word: &'a str,
@@ -33,7 +34,7 @@ pub(crate) struct Task<'a> {
     tables: u8,
 }
 
-/// What is found at one set of one part.
+/// The task of the results at one set of one part.
 pub(crate) const FOUND: Task<'static> = Task {
     word: "found",
     options: Options {
@@ -46,7 +47,7 @@ pub(crate) const FOUND: Task<'static> = Task {
     tables: 1,
 };
 
-/// The kind of a name.
+/// Returns the kind with this name, or `None`.
 fn kind_of(name: &str) -> Option<TableKind> {
     match name {
         "set" => Some(TableKind::Set),
@@ -57,7 +58,7 @@ fn kind_of(name: &str) -> Option<TableKind> {
     }
 }
 
-/// What a table is opened with: one session, and keys at the first place.
+/// Returns the options of a table with one session, and keys at the first position.
 fn options_of(kind: &str, parts: &str) -> Option<Options> {
     Some(Options {
         name: 0,
@@ -68,7 +69,7 @@ fn options_of(kind: &str, parts: &str) -> Option<Options> {
     })
 }
 
-/// What these words ask for.
+/// Returns the task that these words request, or `None`.
 pub(crate) fn task_of(words: &[String]) -> Option<Task<'_>> {
     let [word, kind, parts, tables] = words else {
         return None;
@@ -80,7 +81,7 @@ pub(crate) fn task_of(words: &[String]) -> Option<Task<'_>> {
     })
 }
 
-/// Writes the lines of a task at tables of a kind of part. There are none where there is no such task or it can't be
+/// Writes the lines of a task at tables of this type of part. Returns `None` if there is no such task or it can't be
 /// done.
 fn write_at<P: Part<Global> + Drop>(
     rt: &HostRuntime,

@@ -1,10 +1,11 @@
 //! Inserts and lookups of sessions on threads of their own.
 //!
-//! Standard input is objects with their keys at the first place. Each session puts its share of them into one set and
-//! then looks it up. With no session, the same is done at a table that one thread uses.
+//! Standard input is objects with their keys at the first position. Each session inserts its share of them into one set
+//! and then looks it up. With 0 sessions, one session does this at a table that one thread uses.
 //!
-//! - `times`: of five rounds the median of what the slowest session takes, in nanoseconds, divided by all objects.
-//! - `found`: how many objects were found.
+//! - `times`: the time of the slowest session in nanoseconds, divided by the number of all objects; the median of five
+//!   rounds.
+//! - `found`: the number of objects that were found.
 use crate::phases::Times;
 use crate::rounds::{round, round_alone};
 use crate::timing::{ROUNDS, median};
@@ -17,7 +18,8 @@ use std::time::Clock;
 use tables::Options;
 use term_core::Term;
 
-/// What is done: the times are written or only how many objects are found; at which table; by sessions on threads.
+/// What is done: whether times are written, or only how many objects are found; at which table; whether by sessions on
+/// threads.
 #[derive(Clone, Copy)]
 pub(crate) struct Task {
     is_timed: bool,
@@ -25,7 +27,7 @@ pub(crate) struct Task {
     on_threads: bool,
 }
 
-/// What two sessions find at a set of four parts.
+/// The task of the results of two sessions at a set of four parts.
 pub(crate) const FOUND: Task = Task {
     is_timed: false,
     options: Options {
@@ -38,7 +40,7 @@ pub(crate) const FOUND: Task = Task {
     on_threads: true,
 };
 
-/// What these words ask for.
+/// Returns the task that these words request, or `None`.
 pub(crate) fn task_of(words: &[String]) -> Option<Task> {
     let [word, parts, sessions] = words else {
         return None;
@@ -63,7 +65,7 @@ pub(crate) fn task_of(words: &[String]) -> Option<Task> {
     })
 }
 
-/// What a round takes.
+/// Returns the times of a round.
 fn timed<R: Threads + Wait + Clock + Sync>(
     rt: &R,
     alloc: Global,
@@ -77,7 +79,7 @@ fn timed<R: Threads + Wait + Clock + Sync>(
     }
 }
 
-/// Writes what a call takes.
+/// Writes the nanoseconds of an insert and of a lookup.
 fn write_times<R: Threads + Wait + Clock + Sync>(
     rt: &R,
     alloc: Global,

@@ -1,4 +1,4 @@
-//! What a selection over a table takes by members, each on a thread of its own, and by one session.
+//! The time of a selection over a table by members, each on a thread of its own, and by one session.
 ghost use Rattle.std.specs.Prelude.{◌≡◌, ◌<◌, All, IfSome};
 ghost use Rattle.tables.specs.Opened.{AllOpened};
 ghost use Rattle.tables.specs.Sessions.{IsOpened};
@@ -17,7 +17,7 @@ use std::time::Instant;
 use tables::{Options, Session, Table, Turns};
 use walks::Query;
 
-/// A set of four parts, of four members and one session more.
+/// The options of a set of four parts, with four members and one more session.
 const OPTIONS: Options = Options {
     name: 0,
     kind: TableKind::Set,
@@ -26,7 +26,8 @@ const OPTIONS: Options = Options {
     sessions: 5,
 };
 
-/// How many answers there are, and the nanoseconds that they take, by members, if there are any, else by the session.
+/// Makes a selection by members, if there are any, else by the session. Returns the number of answers and the
+/// nanoseconds.
 fn once<H: Threads + Wait + Sync, T: Turns<Global>, M: Turns<Global> + Send>(
     rt: &HostRuntime,
     handle: &H,
@@ -46,7 +47,7 @@ fn once<H: Threads + Wait + Sync, T: Turns<Global>, M: Turns<Global> + Send>(
     Some((answers.len(), took))
 }
 
-/// How many answers there are, and the median of the nanoseconds that they take.
+/// Returns the number of answers of a selection, and the median of the nanoseconds.
 fn timed<H: Threads + Wait + Sync, T: Turns<Global>, M: Turns<Global> + Send>(
     rt: &HostRuntime,
     handle: &H,
@@ -69,7 +70,8 @@ fn timed<H: Threads + Wait + Sync, T: Turns<Global>, M: Turns<Global> + Send>(
     Some((count, median(rounds)))
 }
 
-/// The same at a table, by these sessions as members, or by another where there are none.
+/// Returns the number of answers of a selection at a table, and the median of the nanoseconds. These sessions are the
+/// members; if there are none, `session` makes it alone.
 fn timed_at<H: Threads + Wait + Sync, P: Part<Global> + Drop + Send>(
     rt: &HostRuntime,
     handle: &H,
@@ -87,8 +89,8 @@ fn timed_at<H: Threads + Wait + Sync, P: Part<Global> + Drop + Send>(
     timed(rt, handle, &mut at, members.as_mut_slice(), query)
 }
 
-/// What a selection over so many objects takes: how many answers there are, and the nanoseconds, by one session and
-/// then by members.
+/// Returns the number of answers and the nanoseconds of a selection over `count` objects, by one session and then by
+/// members.
 fn both<H: Threads + Wait + Sync, P: Part<Global> + Drop + Send>(
     rt: &HostRuntime,
     handle: &H,
@@ -122,7 +124,7 @@ fn both<H: Threads + Wait + Sync, P: Part<Global> + Drop + Send>(
     Some((alone, together))
 }
 
-/// Writes the line of the nanoseconds that a selection takes.
+/// Writes the line with the nanoseconds of a selection.
 pub(crate) fn write_times<H: Threads + Wait + Sync>(
     rt: &HostRuntime,
     handle: &H,
@@ -138,7 +140,7 @@ pub(crate) fn write_times<H: Threads + Wait + Sync>(
     .ok()
 }
 
-/// Writes the line of how many objects have an answer.
+/// Writes the line with the number of objects that have an answer.
 pub(crate) fn write_found<H: Threads + Wait + Sync>(
     rt: &HostRuntime,
     handle: &H,

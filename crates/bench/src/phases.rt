@@ -9,7 +9,7 @@ use std::time::{Clock, Instant};
 use tables::{Turns, lookup};
 use term_core::Term;
 
-/// The nanoseconds that a session took for all its inserts and all its lookups, and how many objects it found.
+/// The nanoseconds of all inserts and of all lookups of a session, and how many objects it found.
 #[derive(Clone, Copy)]
 pub(crate) struct Times {
     pub(crate) insert: u64,
@@ -17,7 +17,7 @@ pub(crate) struct Times {
     pub(crate) found: usize,
 }
 
-/// Looks all keys up, and says how many objects were found.
+/// Looks up all keys, and returns how many objects were found.
 fn find_all<T: Turns<Global>>(session: &mut T, objects: &[Term]) -> Option<usize>
     requires { T.is_ready session.old }
     ensures ready { T.is_ready session.new }
@@ -33,7 +33,7 @@ fn find_all<T: Turns<Global>>(session: &mut T, objects: &[Term]) -> Option<usize
     Some(found)
 }
 
-/// Both, timed.
+/// Inserts all objects and looks up all keys. Returns the times of both, and how many objects were found.
 pub(crate) fn timed<R: Clock, T: Turns<Global>>(
     rt: &R,
     session: &mut T,

@@ -1,4 +1,4 @@
-//! A table of many sessions, each on a thread of its own, and one that is used by one thread.
+//! A table of many sessions, each on a thread of its own, and a table that one thread uses.
 ghost use Rattle.tables.specs.Opened.{AllOpened};
 ghost use Rattle.tables.specs.Sessions.{IsOpened};
 
@@ -12,7 +12,7 @@ use std::time::Clock;
 use tables::{Options, Session, Table};
 use term_core::Term;
 
-/// The objects of a session: the run of that number among so many.
+/// Returns the objects of a session: the share with this number, of as many shares as there are sessions.
 fn share(objects: &[Term], number: u8, sessions: u8) -> &[Term] {
     let size = objects.len().div_ceil(usize::from(sessions.max(1)));
     match objects.chunks(size.max(1)).nth(usize::from(number)) {
@@ -21,7 +21,7 @@ fn share(objects: &[Term], number: u8, sessions: u8) -> &[Term] {
     }
 }
 
-/// What a session takes for its share.
+/// Returns the times of a session for its share.
 fn session_timed<R: Wait + Clock, P: Part<Global> + Drop>(
     rt: &R,
     table: &Table<P>,
@@ -36,7 +36,7 @@ fn session_timed<R: Wait + Clock, P: Part<Global> + Drop>(
     timed(rt, &mut at, share)
 }
 
-/// What each session takes.
+/// Returns the times of each session.
 fn sessions_timed<R: Threads + Wait + Clock + Sync, P: Part<Global> + Drop + Send>(
     rt: &R,
     table: &Table<P>,
@@ -55,7 +55,7 @@ fn sessions_timed<R: Threads + Wait + Clock + Sync, P: Part<Global> + Drop + Sen
     .ok()
 }
 
-/// What the slowest session takes.
+/// Returns the longest insert time and the longest lookup time of a session, and how many objects all sessions found.
 fn slowest(all: &[Option<Times>]) -> Option<Times> {
     let mut slowest = Times {
         insert: 0,
@@ -71,7 +71,7 @@ fn slowest(all: &[Option<Times>]) -> Option<Times> {
     Some(slowest)
 }
 
-/// What sessions on threads take.
+/// Returns the longest times of the sessions on threads, and how many objects they found.
 pub(crate) fn round<R: Threads + Wait + Clock + Sync, P: Part<Global> + Drop + Send>(
     rt: &R,
     alloc: Global,
@@ -84,7 +84,7 @@ pub(crate) fn round<R: Threads + Wait + Clock + Sync, P: Part<Global> + Drop + S
     slowest(sessions_timed(rt, &table, sessions, objects)?.as_slice())
 }
 
-/// What the session of a table on one thread takes.
+/// Returns the times of the session of a table on one thread.
 pub(crate) fn round_alone<R: Clock, P: Part<Global> + Drop>(
     rt: &R,
     alloc: Global,

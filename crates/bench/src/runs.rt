@@ -1,4 +1,5 @@
-//! What a specification costs: its compilation, and its code and the evaluator over the objects behind it.
+//! The time of a specification: to be compiled, and to be evaluated over the objects that follow it, by its code and by
+//! the evaluator.
 use crate::timing::{ROUNDS, median, since};
 use compiler::compile;
 use kit_rows::put;
@@ -11,21 +12,21 @@ use std::time::Instant;
 use term_core::Term;
 use verifier::Verified;
 
-/// How often the specification is compiled in one round.
+/// How many times the specification is compiled in one round.
 const COMPILATIONS: usize = 100;
 
-/// What is timed.
+/// Work that is timed.
 #[derive(Clone, Copy)]
 enum Work {
     /// Compiling and verifying.
     Compile,
-    /// Answers of the code, and letting them go.
+    /// Running the code, and dropping the answers.
     Run,
-    /// Answers of the code, which are let go when the clock has stopped.
+    /// Running the code, with the answers dropped after the clock has stopped.
     RunKept,
-    /// Whether the answers of the code are `true`.
+    /// Running the code for whether the answers are `true`.
     RunTrue,
-    /// Answers of the evaluator.
+    /// Evaluating the specification.
     Evaluate,
 }
 
@@ -37,7 +38,7 @@ struct Query<'a> {
     objects: &'a [Term],
 }
 
-/// Puts an answer behind others, where there is one; false for want of memory.
+/// Appends an answer, if there is one; returns `false` if memory runs out.
 fn put_answer(answers: &mut Vec<Term>, answer: Option<Term>) -> bool {
     match answer {
         Some(answer) => put(answers, answer),
@@ -45,7 +46,7 @@ fn put_answer(answers: &mut Vec<Term>, answer: Option<Term>) -> bool {
     }
 }
 
-/// Puts the answer of code on an object behind others, where there is one; false for want of memory.
+/// Appends the answer of code on an object, if there is one; returns `false` if memory runs out.
 fn put_run<'a>(machine: &mut Machine<'a, '_>, object: &'a Term, answers: &mut Vec<Term>) -> bool {
     match machine.run(object) {
         Ok((answer, _executed)) => put_answer(answers, answer),
@@ -53,7 +54,7 @@ fn put_run<'a>(machine: &mut Machine<'a, '_>, object: &'a Term, answers: &mut Ve
     }
 }
 
-/// The answers of code.
+/// Appends the answers of a machine on objects.
 fn answer<'a>(
     machine: &mut Machine<'a, '_>,
     objects: &'a [Term],
@@ -66,7 +67,7 @@ fn answer<'a>(
     if is_whole { Some(()) } else { None }
 }
 
-/// Adds the answers of code to others, and gives how many there are in all.
+/// Appends the answers of code on objects, and returns how many there are in all.
 fn answered(
     alloc: Global,
     code: &Verified,
@@ -79,13 +80,13 @@ fn answered(
     all.map(|()| answers.len())
 }
 
-/// How many objects code answers. The answers are kept until the last of them.
+/// Returns on how many objects code has an answer. The answers are dropped after the last of them.
 fn let_go(alloc: Global, code: &Verified, objects: &[Term]) -> Option<usize> {
     let mut answers = Vec::new(alloc);
     answered(alloc, code, objects, &mut answers)
 }
 
-/// How many objects a machine answers with `true`.
+/// Returns on how many objects the answer of a machine is `true`.
 fn count_true<'a>(machine: &mut Machine<'a, '_>, objects: &'a [Term]) -> Option<usize> {
     let mut count: usize = 0;
     for object in objects {
@@ -97,7 +98,7 @@ fn count_true<'a>(machine: &mut Machine<'a, '_>, objects: &'a [Term]) -> Option<
     Some(count)
 }
 
-/// How many objects code answers with `true`.
+/// Returns on how many objects the answer of code is `true`.
 fn true_on(alloc: Global, code: &Verified, objects: &[Term]) -> Option<usize> {
     let mut machine = Machine::new(&alloc, code).ok()?;
     let count = count_true(&mut machine, objects);
@@ -105,7 +106,7 @@ fn true_on(alloc: Global, code: &Verified, objects: &[Term]) -> Option<usize> {
     count
 }
 
-/// Puts the evaluator's answer on an object behind others, where there is one; false for want of memory.
+/// Appends the evaluator's answer on an object, if there is one; returns `false` if memory runs out.
 fn put_evaluated(
     alloc: Global,
     specification: &Spec,
@@ -118,7 +119,7 @@ fn put_evaluated(
     }
 }
 
-/// How many objects the evaluator answers. The answers are kept until the last of them.
+/// Returns on how many objects the evaluator has an answer. The answers are dropped after the last of them.
 fn evaluated(alloc: Global, specification: &Spec, objects: &[Term]) -> Option<usize> {
     let mut answers = Vec::new(alloc);
     let mut is_whole = true;
@@ -128,13 +129,13 @@ fn evaluated(alloc: Global, specification: &Spec, objects: &[Term]) -> Option<us
     if is_whole { Some(answers.len()) } else { None }
 }
 
-/// How many instructions the code of a specification has.
+/// Returns the number of instructions of a specification's code.
 fn instructions(alloc: Global, specification: &Spec) -> Option<usize> {
     let code = compile(alloc, specification).ok()?;
     Some(code.code().instructions().len())
 }
 
-/// Compiles a specification so many times, and gives how many instructions its code has.
+/// Compiles a specification 100 times, and returns the number of instructions of its code.
 fn compiled(alloc: Global, specification: &Spec) -> Option<usize> {
     let mut count = 0;
     for _compilation in 0..COMPILATIONS {
@@ -143,8 +144,8 @@ fn compiled(alloc: Global, specification: &Spec) -> Option<usize> {
     Some(count)
 }
 
-/// What the work finds: how many instructions, or for how many objects there is an answer. Answers that are to be kept
-/// come to `answers`.
+/// Does the work, and returns what it finds: the number of instructions, or of objects that have an answer. Answers
+/// that are to be kept are appended to `answers`.
 fn found(alloc: Global, work: Work, query: Query, answers: &mut Vec<Term>) -> Option<usize> {
     match work {
         Work::Compile => compiled(alloc, query.specification),
@@ -155,7 +156,7 @@ fn found(alloc: Global, work: Work, query: Query, answers: &mut Vec<Term>) -> Op
     }
 }
 
-/// The nanoseconds that the work takes once, and what it finds.
+/// Returns the nanoseconds that the work takes once, and what it finds.
 fn once(rt: &HostRuntime, work: Work, query: Query) -> Option<(u64, usize)> {
     let mut answers = Vec::new(rt.alloc());
     let began = Instant::now(rt).ok()?;
@@ -163,7 +164,7 @@ fn once(rt: &HostRuntime, work: Work, query: Query) -> Option<(u64, usize)> {
     Some((since(rt, began)?, found))
 }
 
-/// The median of the nanoseconds that the work takes, and what it finds.
+/// Returns the median of the nanoseconds that the work takes, and what it finds.
 fn timed(rt: &HostRuntime, work: Work, query: Query) -> Option<(u64, usize)> {
     let mut rounds = [0; ROUNDS];
     let mut count = 0;
@@ -175,14 +176,14 @@ fn timed(rt: &HostRuntime, work: Work, query: Query) -> Option<(u64, usize)> {
     Some((median(rounds), count))
 }
 
-/// Writes the line of what compiling takes.
+/// Writes the line with the time of compiling.
 fn write_compilation(rt: &HostRuntime, query: Query, lines: &mut String) -> Option<()> {
     let (nanoseconds, instructions) = timed(rt, Work::Compile, query)?;
     let each = nanoseconds / COMPILATIONS as u64;
     writeln!(lines, "compile {each} ns, {instructions} instructions").ok()
 }
 
-/// Writes the line of what the work takes for an object.
+/// Writes the line with the time of the work for an object.
 fn write_work(
     rt: &HostRuntime,
     name: &str,
@@ -209,7 +210,7 @@ fn write_times(rt: &HostRuntime, query: Query, lines: &mut String) -> Option<()>
     write_work(rt, "evaluate", Work::Evaluate, query, lines)
 }
 
-/// Compiles a specification, and writes the lines of it over the objects.
+/// Compiles a specification, and writes its lines over the objects.
 fn write_query(
     rt: &HostRuntime,
     specification: &Spec,
@@ -225,7 +226,7 @@ fn write_query(
     write_times(rt, query, lines)
 }
 
-/// Reads a specification, and writes the lines of it over the objects.
+/// Reads a specification, and writes its lines over the objects.
 fn write_specification(
     rt: &HostRuntime,
     specification: &Term,
@@ -236,10 +237,10 @@ fn write_specification(
     write_query(rt, &specification, objects, lines)
 }
 
-/// Writes the nanoseconds that the first of these terms takes to be compiled, as a specification, and how many
-/// instructions its code has; below, those of an object of `run`, of `run` where the answers are let go when the clock
-/// has stopped, of `run_true` and of `evaluate`, and of how many objects there was an answer, of `run_true` the answer
-/// `true`. Each time is the median of five.
+/// Writes the nanoseconds that the first of these terms takes to be compiled, as a specification, and the number of
+/// instructions of its code. Then writes the nanoseconds for an object of `run`, of `run` with the answers dropped
+/// after the clock has stopped, of `run_true` and of `evaluate`. Each line has the number of objects that have an
+/// answer (for `run_true`, the answer `true`). Each time is the median of five.
 pub(crate) fn write(rt: &HostRuntime, terms: &[Term], lines: &mut String) -> Option<()> {
     let (specification, objects) = terms.split_first()?;
     write_specification(rt, specification, objects, lines)

@@ -1,4 +1,4 @@
-//! What work at a table takes, and what comes of it.
+//! The time of work at a table, and its results.
 ghost use Rattle.std.specs.Prelude.{◌≡◌, ◌<◌, IfSome};
 
 use crate::calls::{Call, Load, Work, done};
@@ -9,10 +9,10 @@ use std::slice;
 use std::time::Instant;
 use tables::{LocalTable, Options};
 
-/// How many kinds of work a round has.
+/// The number of pieces of work in a round.
 const WORKS: usize = 10;
-/// The work of a round, in its order. The second insert puts each object in the place of the first, and the last lookup
-/// finds what was left.
+/// The work of a round, in its order. The second insert replaces each object by an equal one, and the last lookup finds
+/// what is left.
 const ROUND: [Work; WORKS] = [
     Work::Each(Call::Insert),
     Work::Each(Call::Insert),
@@ -25,20 +25,20 @@ const ROUND: [Work; WORKS] = [
     Work::Each(Call::Delete),
     Work::Each(Call::Lookup),
 ];
-/// What the work is called of which times are written: all but the last.
+/// The names of the work of which times are written: all but the last.
 const NAMES: [&str; WORKS - 1] = [
     "insert", "replace", "lookup", "member", "count", "select", "pieces", "run", "delete",
 ];
 
-/// What came of work.
+/// The result of work.
 #[derive(Clone, Copy)]
 struct Outcome {
     nanoseconds: u64,
-    /// How many objects were put in, found, counted or answered on.
+    /// The number of objects that were inserted, found, counted or answered.
     objects: u64,
 }
 
-/// An empty table of some session.
+/// Returns an empty table with at least one session.
 pub(crate) fn opened<P: Part<Global> + Drop>(
     alloc: Global,
     options: Options,
@@ -67,7 +67,7 @@ fn timed<P: Part<Global> + Drop>(
     })
 }
 
-/// What comes of a round at an empty table.
+/// Returns the results of a round at an empty table.
 fn round<P: Part<Global> + Drop>(
     rt: &HostRuntime,
     options: Options,
@@ -84,7 +84,7 @@ fn round<P: Part<Global> + Drop>(
     Some(outcomes)
 }
 
-/// The nanoseconds of each work in each round.
+/// Returns the nanoseconds of each work in each round.
 fn rounds<P: Part<Global> + Drop>(
     rt: &HostRuntime,
     options: Options,
@@ -117,7 +117,7 @@ pub(crate) fn write<P: Part<Global> + Drop>(
     Some(())
 }
 
-/// The nanoseconds of the longest insert.
+/// Returns the nanoseconds of the longest insert.
 fn longest_insert<P: Part<Global> + Drop>(
     rt: &HostRuntime,
     table: &mut LocalTable<P>,
@@ -137,7 +137,7 @@ fn longest_insert<P: Part<Global> + Drop>(
     Some(longest)
 }
 
-/// Writes what the longest insert takes: that which doubles the most slots.
+/// Writes the time of the longest insert, which is the one that doubles the most slots.
 pub(crate) fn write_longest<P: Part<Global> + Drop>(
     rt: &HostRuntime,
     options: Options,
@@ -182,7 +182,7 @@ pub(crate) fn write_found<P: Part<Global> + Drop>(
     .ok()
 }
 
-/// A table with the objects.
+/// Returns a table with the objects.
 fn filled<P: Part<Global> + Drop>(
     rt: &HostRuntime,
     options: Options,
@@ -193,7 +193,7 @@ fn filled<P: Part<Global> + Drop>(
     Some(table)
 }
 
-/// Puts the objects into so many tables, and holds them all.
+/// Inserts the objects into each of `tables` tables, and holds all tables until the end.
 pub(crate) fn hold<P: Part<Global> + Drop>(
     rt: &HostRuntime,
     options: Options,

@@ -1,4 +1,4 @@
--- Budgets of all bodies: the pass from the last body to the first, and that there is one of each.
+-- Budgets of all bodies: the pass from the last body to the first, and that each body has only one budget.
 use Rattle.std.proofs.Common.{◌≡◌, ◌≢◌, ℕ, zero, suc, ◌+◌, ◌-◌, ◌<◌, ◌≤◌, List, [], ◌∷◌, length, replicate, set, slice_get, slice_index, Option, Some, None, refl, sym, ◌∙◌, ap, ap₂, arith, get_or, inl, inr}
 use Rattle.std.proofs.lemmas.List.{get_or_past, length-set, get_or-set_same, get_or-set_other}
 use Rattle.std.proofs.lemmas.Option.{slice_get-get_or, slice_get_within}
@@ -13,7 +13,7 @@ use Rattle.budget.proofs.PassLemmas.{before_or_not}
 
 -- ---- one body
 
--- the budget of a body is one
+-- a body has only one budget
 pub body_once : (p : Program) (budgets : List ℕ) (n m : ℕ) → IsBodyBudget p budgets n → IsBodyBudget p budgets m → n ≡ m
 body_once p budgets n m a b = let up = low p budgets n m a b in let down = low p budgets m n b a in omega (arith, up, down)
   where
@@ -23,7 +23,7 @@ body_once p budgets n m a b = let up = low p budgets n m a b in let down = low p
       | inr none ↦ omega (arith, none.1)
     ]
 
--- budgets that agree behind a number
+-- budgets that agree after a number
 abbrev pub AgreeBehind : ℕ → List ℕ → List ℕ → Type 0
 AgreeBehind n budgets others = (c : ℕ) → n < c → slice_index budgets c ≡ slice_index others c
 
@@ -40,7 +40,7 @@ counted_agrees p budgets others (a ∷ path) same forward =
     by None is = refl
     by (Some i) is = weight_agrees p budgets others i same (forward.calls a i is)
 
--- the budget of a body depends on those behind it alone
+-- the budget of a body depends only on those of bodies with higher numbers
 pub budget_agrees : (p : Program) (budgets others : List ℕ) (n : ℕ) → AgreeBehind p.around.number budgets others → IsForward p → IsBodyBudget p budgets n → IsBodyBudget p others n
 budget_agrees p budgets others n same forward budget = record {
   reached = elim budget.reached [
@@ -54,7 +54,7 @@ budget_agrees p budgets others n same forward budget = record {
 
 -- ---- all bodies
 
--- before the pass no budget is asked for
+-- before the pass no budget is required to be right
 pub budgets_none : (p : Program) (budgets : List ℕ) (from : ℕ) → length budgets ≡ suc (length p.around.routines) → length p.around.routines < from → AreBudgets p from budgets
 budgets_none p budgets from count past = record { count = count; each = λ b low inside. absurd (omega (arith, low, inside, past)) }
 
@@ -67,7 +67,7 @@ few_none (suc n) (suc b) = few_none n b
 abbrev pub ForwardFrom : Program → ℕ → Type 0
 ForwardFrom p from = (b : ℕ) → from ≤ b → b ≤ length p.around.routines → IsForward (body_of p b)
 
--- one budget more
+-- the budgets with one more
 pub budgets_more : (p : Program) (budgets : List ℕ) (b n : ℕ) → ForwardFrom p b → b ≤ length p.around.routines → AreBudgets p (b + 1) budgets → IsBodyBudget (body_of p b) budgets n → AreBudgets p b (set budgets b n)
 budgets_more p budgets b n forward inside are here = record {
   count = length-set budgets b n ∙ are.count;
@@ -101,7 +101,7 @@ few_more budgets b n inside few low c = elim (before_or_not b c) [
   ]
 ]
 
--- a budget above the limit, where those behind it are within it
+-- a budget above the limit, if those after it are within the limit
 pub over_here : (p : Program) (budgets : List ℕ) (b n : ℕ) → ForwardFrom p b → b ≤ length p.around.routines → AreBudgets p (b + 1) budgets → ((c : ℕ) → slice_index budgets c ≤ most_budget) → IsBodyBudget (body_of p b) budgets n → most_budget < n → IsOver p b
 over_here p budgets b n forward inside are few here over = record {
   budgets = set budgets b n;
@@ -122,7 +122,7 @@ path_counts p budgets a path (alone inside) =
 path_counts p budgets a path (onward {path = rest} edge is_path) =
     omega (arith, counted_at p budgets a edge.instr rest edge.here, weight_some budgets edge.instr)
 
--- what is counted by budgets that agree where they are this low
+-- an instruction counts the same with budgets that agree where they are this low
 weight_low : (budgets others : List ℕ) (n : ℕ) (o : Option Instr) → ((r : ℕ) → slice_index budgets r ≤ n → slice_index budgets r ≡ slice_index others r) → weight_of budgets o ≤ suc n → weight_of budgets o ≡ weight_of others o
 weight_low budgets others n None same low = refl
 weight_low budgets others n (Some (instr.Invoke r l)) same low = ap suc (same r (omega (arith, low)))
@@ -138,7 +138,7 @@ module _ (p : Program) (budgets others : List ℕ) (are : AreBudgets p 0 budgets
   abbrev Same : ℕ → Type 0
   Same b = slice_index budgets b ≡ slice_index others b
 
-  -- of a body whose paths are counted the same
+  -- bodies whose paths count the same have the same budget
   same_here : (b m : ℕ) → b ≤ length p.around.routines → ((path : List ℕ) → counted (body_of p b) budgets path ≤ suc m → counted (body_of p b) budgets path ≡ counted (body_of p b) others path) → slice_index budgets b ≤ suc m → Same b
   same_here b m inside same low =
       let one = are.each b (omega arith) inside in
@@ -166,7 +166,7 @@ module _ (p : Program) (budgets others : List ℕ) (are : AreBudgets p 0 budgets
           let inside = slice_get_within q.instructions 0 edge.instr edge.here in
           absurd (omega (arith, inside, ap length empty))
 
-  -- budgets that are this low are the same
+  -- budgets that are this low are equal
   same_low : (n b : ℕ) → slice_index budgets b ≤ n → Same b
   same_low zero b low = elim (before_or_not (length p.around.routines) b) [
     | inl past ↦ get_or_past budgets b 0 (omega (arith, past, are.count)) ∙ sym (get_or_past others b 0 (omega (arith, past, again.count)))
@@ -183,11 +183,11 @@ module _ (p : Program) (budgets others : List ℕ) (are : AreBudgets p 0 budgets
     | inr inside ↦ same_here b n inside (λ path few. counted_low (body_of p b) budgets others n path (same_low n) few) low
   ]
 
--- code has one budget
+-- code has only one budget
 pub budget_once : (p : Program) (n m : ℕ) → IsBudget p n → IsBudget p m → n ≡ m
 budget_once p n m a b = a.2 ∙ same_low p a.0 b.0 a.1 b.1 (slice_index a.0 0) 0 (omega arith) ∙ sym b.2
 
--- ---- the same from a body on, where all goes forward
+-- ---- budgets from a body on, if all goes forward
 
 pub budgets_agree : (p : Program) (from : ℕ) (budgets others : List ℕ) → ForwardFrom p from → AreBudgets p from budgets → AreBudgets p from others → (c : ℕ) → from ≤ c → slice_index budgets c ≡ slice_index others c
 budgets_agree p from budgets others forward are again c low = by (suc (length p.around.routines) - c) c low (omega arith)

@@ -8,20 +8,20 @@ use Rattle.budget.specs.Paths.{IsAt, IsForward, IsCallForward}
 use Rattle.budget.specs.Pass.{IsStepForward}
 use Rattle.budget.proofs.PassLemmas.{before_or_not}
 
--- one more
+-- a property of all before a place, and at it
 pub all_more : (P : ℕ → Type 0) (n : ℕ) → ((a : ℕ) → a < n → P a) → P n → (a : ℕ) → a < n + 1 → P a
 all_more P n before here a below = elim (before_or_not a n) [
   | inl less ↦ before a less
   | inr more ↦ let same : n ≡ a = omega (arith, below, more) in subst P same here
 ]
 
--- what is known of the one instruction that stands there
+-- the instruction at a place is the only one there
 pub step_is : (p : Program) (a : ℕ) (i : Instr) → IsAt p a i → IfSome (target_of i) (λ b. (a < b) × (b < length p.instructions)) → IsCallForward p i → IsStepForward p a
 step_is p a i here jumps call j there =
     let same : i ≡ j = same_Some i j (sym here ∙ there) in
     subst (λ k. IfSome (target_of k) (λ b. (a < b) × (b < length p.instructions)) × IsCallForward p k) same (jumps, call)
 
--- all instructions of a body
+-- a body goes forward if all its instructions do
 pub body_forward : (p : Program) (n : ℕ) → length p.instructions ≤ n → ((a : ℕ) → a < n → IsStepForward p a) → IsForward p
 body_forward p n whole each = record {
   jumps = λ a b i here jumps.

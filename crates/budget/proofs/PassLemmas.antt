@@ -1,4 +1,4 @@
--- The pass from the last instruction to the first: one step, and what comes of all.
+-- The pass from the last instruction to the first: one step, and the result of all steps.
 use Rattle.std.proofs.Common.{◌≡◌, ◌≢◌, ℕ, zero, suc, ◌+◌, ◌*◌, ◌<◌, ◌≤◌, max, Bool, true, false, if◌then◌else◌, List, [], ◌∷◌, length, set, replicate, slice_index, Option, Some, None, refl, sym, ◌∙◌, ap, arith, ◌⊎◌, inl, inr}
 use Rattle.std.specs.Option.{option_map_or, MatchOption}
 use Rattle.std.proofs.lemmas.List.{get_or_past, length-set, get_or-set_same, get_or-set_other, get_or-replicate, length-replicate}
@@ -27,7 +27,7 @@ reached_max {p} budgets {a} n m of_n of_m = elim (before_or_not n m) [
   | inr h ↦ let e : max n m ≡ n = omega arith in rw e of_n
 ]
 
--- what stands at a place of code, of which all later numbers are right
+-- the instruction at a place of code for which all later numbers are right
 module _ (p : Program) (budgets : List ℕ) (a : ℕ) (i : Instr) (numbers : List ℕ) (forward : AreJumpsForward p) (later : AreLongest p budgets numbers (a + 1)) (here : IsAt p a i) where
   next_reached : IsReached p budgets a (next_number i a numbers)
   next_reached = by (goes_on i) refl
@@ -70,7 +70,7 @@ module _ (p : Program) (budgets : List ℕ) (a : ℕ) (i : Instr) (numbers : Lis
             omega (arith, limit, number)
       ]
 
-  -- with what the instruction counts the number is the most that a path from there counts
+  -- this number and what the instruction counts are together the largest that a path from it counts
   pub longest_step : IsLongestFrom p budgets a (weight budgets i + onward_number i a numbers)
   longest_step = record { reached = by onward_reached; greatest = limit }
     where
@@ -87,7 +87,7 @@ module _ (p : Program) (budgets : List ℕ) (a : ℕ) (i : Instr) (numbers : Lis
           let most = onward_limit b edge rest is_path in
           omega (arith, most, counted_at p budgets a i rest here)
 
--- a number is no greater than what all later instructions may count
+-- a number is at most what all later instructions may count
 pub onward_small : (i : Instr) (a n : ℕ) (numbers : List ℕ) → AreSmall numbers n → onward_number i a numbers ≤ most_weight * n
 onward_small i a n numbers small = omega (arith, next (goes_on i), target (target_of i))
   where
@@ -99,7 +99,7 @@ onward_small i a n numbers small = omega (arith, next (goes_on i), target (targe
     target None = omega arith
     target (Some b) = small b
 
--- code of the same instructions has the same paths
+-- code with the same instructions has the same paths
 path_moves : {p q : Program} {a : ℕ} {path : List ℕ} → p.instructions ≡ q.instructions → IsPathFrom p a path → IsPathFrom q a path
 path_moves same (alone inside) = alone (rw (← same) inside)
 path_moves same (onward edge rest) =
@@ -117,13 +117,13 @@ budget_of_body p budgets is n same budget = record {
       omega (arith, most, counted_moves (code_of is) p budgets path same);
 }
 
--- the budget of a body where it isn't above the limit
+-- the budget of a body, if it is not above the limit
 pub limited : (p : Program) (budgets : List ℕ) (is : List Instr) (n : ℕ) (found : Option ℕ) → is ≡ p.instructions → IsBodyBudget (code_of is) budgets n → MatchOption found (most_budget < n) (λ m. (m ≡ n) × (m ≤ most_budget)) → MatchOption found ((m : ℕ) × IsBodyBudget p budgets m × (most_budget < m)) (λ m. IsBodyBudget p budgets m × (m ≤ most_budget))
 limited p budgets is n None same budget told = (n, budget_of_body p budgets is n same budget, told)
 limited p budgets is n (Some m) same budget told =
     (rw told.0 (budget_of_body p budgets is n same budget), told.1)
 
--- where all numbers are right, the first is the budget
+-- if all numbers are right, the first is the budget
 pub budget_first : {p : Program} {budgets numbers : List ℕ} → AreLongest p budgets numbers 0 → IsBodyBudget p budgets (slice_index numbers 0)
 budget_first {p} {budgets} {numbers} all = by p.instructions refl
   where
@@ -139,11 +139,11 @@ budget_first {p} {budgets} {numbers} all = by p.instructions refl
         let first = all.each 0 (omega arith) (omega (arith, ap length some)) in
         record { reached = inl first.reached; greatest = first.greatest }
 
--- before the pass no number is asked for
+-- before the pass no number is required to be right
 pub longest_none : {p : Program} {budgets numbers : List ℕ} → length numbers ≡ length p.instructions → AreLongest p budgets numbers (length p.instructions)
 longest_none count = record { count = count; each = λ a from inside. absurd (omega (arith, from, inside)) }
 
--- one number more
+-- the numbers with one more
 pub longest_more : {p : Program} {budgets numbers : List ℕ} (a n : ℕ) → a < length p.instructions → AreLongest p budgets numbers (a + 1) → IsLongestFrom p budgets a n → AreLongest p budgets (set numbers a n) a
 longest_more {p} {budgets} {numbers} a n inside later here = record {
   count = length-set numbers a n ∙ later.count;
@@ -163,7 +163,7 @@ small_none n m a = elim (before_or_not a n) [
   | inr past ↦ omega (arith, get_or_past {X = ℕ} (replicate n 0) a 0 (omega (arith, past, length-replicate {A = ℕ} n 0)))
 ]
 
--- one number more, and one instruction more that may be counted
+-- one more number, and one more instruction that may be counted
 pub small_more : (numbers : List ℕ) (a n m k : ℕ) → a < length numbers → m ≤ k → AreSmall numbers m → n ≤ most_weight * k → AreSmall (set numbers a n) k
 small_more numbers a n m k inside more small low b = elim (nat_same b a) [
   | inl same ↦ rw (same, get_or-set_same) low

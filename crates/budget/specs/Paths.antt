@@ -7,7 +7,7 @@ use Rattle.mcode.specs.declared.instr.Instr.TheVariants as instr
 
 -- ---- paths of one body
 
--- instruction i stands at a
+-- instruction i is at a
 abbrev pub IsAt : Program → ℕ → Instr → Type 0
 IsAt p a i = slice_get p.instructions a ≡ Some i
 
@@ -22,8 +22,8 @@ pub record HasEdge (p : Program) (a b : ℕ) : Type 0 where
   pub leads : LeadsTo instr a b
   pub inside : b < length p.instructions
 
--- a path from a, as the numbers of its instructions: a alone, which is inside the code, or a and then a path
--- from b, where there is an edge from a to b
+-- A path from a, as the numbers of its instructions: a alone, which is inside the code, or a followed by a path from b,
+-- if there is an edge from a to b.
 pub data IsPathFrom (p : Program) : ℕ → List ℕ → Type 0 where
   alone : {a : ℕ} → a < length p.instructions → IsPathFrom p a (a ∷ [])
   onward : {a b : ℕ} {path : List ℕ} → HasEdge p a b → IsPathFrom p b path
@@ -31,18 +31,18 @@ pub data IsPathFrom (p : Program) : ℕ → List ℕ → Type 0 where
 
 -- ---- what paths count
 
--- how many instructions an instruction counts, where these are the budgets of all bodies: INVOKE counts itself and its
--- routine
+-- The number of instructions that an instruction counts, given the budgets of all bodies: INVOKE counts itself and its
+-- routine, any other instruction counts itself.
 abbrev pub weight : List ℕ → Instr → ℕ
 weight budgets (instr.Invoke r l) = suc (slice_index budgets r)
 weight budgets i = 1
 
--- that of the instruction at a place, 0 where there is none
+-- the number that the instruction at a place counts, 0 if there is none
 abbrev pub weight_of : List ℕ → Option Instr → ℕ
 weight_of budgets None = 0
 weight_of budgets (Some i) = weight budgets i
 
--- how many instructions a path counts
+-- the number of instructions that a path counts
 abbrev pub counted : Program → List ℕ → List ℕ → ℕ
 counted p budgets [] = 0
 counted p budgets (a ∷ path) =
@@ -60,7 +60,7 @@ IsLimitFrom p budgets a n =
 
 -- ---- budgets
 
--- n is the most that a path of the body from instruction 0 counts, or 0 where there is no instruction
+-- n is the largest number that a path of the body from instruction 0 counts, or 0 if there are no instructions
 pub record IsBodyBudget (p : Program) (budgets : List ℕ) (n : ℕ) : Type 0 where
   pub reached : HasPath p budgets 0 n ⊎ ((p.instructions ≡ []) × (n ≡ 0))
   pub greatest : IsLimitFrom p budgets 0 n
@@ -71,16 +71,16 @@ pub record AreBudgets (p : Program) (from : ℕ) (budgets : List ℕ) : Type 0 w
   pub each : (b : ℕ) → from ≤ b → b ≤ length p.around.routines
       → IsBodyBudget (body_of p b) budgets (slice_index budgets b)
 
--- n is the greatest number of instructions on a path from instruction 0 of the main body, where each INVOKE counts that
--- of its routine too
+-- n is the largest number of instructions on a path from instruction 0 of the main body, where each INVOKE also counts
+-- the budget of its routine
 abbrev pub IsBudget : Program → ℕ → Type 0
 IsBudget p n = (budgets : List ℕ) × AreBudgets p 0 budgets × (n ≡ slice_index budgets 0)
 
--- the greatest budget that code may have
+-- the largest budget that code may have
 abbrev pub most_budget : ℕ
 most_budget = 2147483648
 
--- the budget of a body is above that limit, and that of none behind it is
+-- the budget of a body is above `most_budget`, and that of no body with a higher number is
 pub record IsOver (p : Program) (b : ℕ) : Type 0 where
   pub budgets : List ℕ
   pub inside : b ≤ length p.around.routines
@@ -88,7 +88,7 @@ pub record IsOver (p : Program) (b : ℕ) : Type 0 where
   pub over : most_budget < slice_index budgets b
   pub behind : (c : ℕ) → b < c → slice_index budgets c ≤ most_budget
 
--- the budget of no body is above that limit
+-- no body has a budget above `most_budget`
 pub record IsNowhereOver (p : Program) : Type 0 where
   pub budgets : List ℕ
   pub are : AreBudgets p 0 budgets
@@ -96,22 +96,22 @@ pub record IsNowhereOver (p : Program) : Type 0 where
 
 -- ---- forward
 
--- wherever the instruction at a may jump is after a and inside the body
+-- each target of a jump of the instruction at a is after a and inside the body
 abbrev pub AreJumpsForward : Program → Type 0
 AreJumpsForward p =
     (a b : ℕ) (i : Instr) → IsAt p a i → target_of i ≡ Some b → (a < b)
     × (b < length p.instructions)
 
--- INVOKE names a routine that is there and behind the body; other instructions name none
+-- INVOKE names a routine that exists and has a higher number than the body; other instructions name none
 abbrev pub IsCallForward : Program → Instr → Type 0
 IsCallForward p (instr.Invoke r l) = (p.around.number < r) × IsSome (routine_at p r)
 IsCallForward p i = Unit {0}
 
--- each jump of the body goes forward, and so does each INVOKE
+-- each jump and each INVOKE of the body goes forward
 pub record IsForward (p : Program) : Type 0 where
   pub jumps : AreJumpsForward p
   pub calls : (a : ℕ) (i : Instr) → IsAt p a i → IsCallForward p i
 
--- so it is in each body
+-- each jump and each INVOKE of each body goes forward
 abbrev pub AllForward : Program → Type 0
 AllForward p = (b : ℕ) → b ≤ length p.around.routines → IsForward (body_of p b)

@@ -8,8 +8,8 @@ ghost use Rattle.budget.specs.Pass.{IsStepForward};
 use mcode::{Body, Code, Instr};
 use std::alloc::Allocator;
 
-/// Whether every jump goes to a later instruction of its body, and each body invokes only routines that are there and
-/// behind it.
+/// Returns whether every jump goes to a later instruction of its body, and each body invokes only routines that exist
+/// and have a higher number.
 pub fn all_forward<A: Allocator>(code: &Code<A>) -> bool
     ensures { IsTrue result ↔ AllForward code.now }
 {
@@ -22,7 +22,7 @@ pub fn all_forward<A: Allocator>(code: &Code<A>) -> bool
     true
 }
 
-/// The same of one body.
+/// Returns whether the jumps and invocations of the body with this number go forward.
 fn is_forward_at<A: Allocator>(code: &Code<A>, number: u16) -> bool
     requires { number ≤ length code.now.around.routines }
     ensures { IsTrue result ↔ IsForward (body_of code.now number) }
@@ -30,7 +30,7 @@ fn is_forward_at<A: Allocator>(code: &Code<A>, number: u16) -> bool
     is_body_forward(&Body::of(code, number))
 }
 
-/// The same of a body.
+/// Returns whether the jumps and invocations of a body go forward.
 fn is_body_forward<A: Allocator>(body: &Body<'_, A>) -> bool
     ensures { IsTrue result ↔ IsForward body.now }
 {
@@ -42,8 +42,8 @@ fn is_body_forward<A: Allocator>(body: &Body<'_, A>) -> bool
     true
 }
 
-/// Whether the instruction at `pc` jumps to a later one, if at all, and invokes a routine that is there and behind its
-/// body, if any.
+/// Returns whether the instruction at `pc` goes forward: if it jumps, to a later instruction, and if it invokes a
+/// routine, one that exists and has a higher number than the body.
 fn is_forward<A: Allocator>(body: &Body<'_, A>, pc: usize) -> bool
     requires { pc < length body.now.instructions }
     ensures { IsTrue result ↔ IsStepForward body.now pc }
@@ -52,7 +52,7 @@ fn is_forward<A: Allocator>(body: &Body<'_, A>, pc: usize) -> bool
     is_jump_forward(instr, pc, body.instructions().len()) && is_call_forward(body, instr)
 }
 
-/// The instruction of a number.
+/// Returns the instruction at `pc`.
 fn instr_at<A: Allocator>(body: &Body<'_, A>, pc: usize) -> Instr
     requires { pc < length body.now.instructions }
     ensures { IsAt body.now pc result }
@@ -60,7 +60,7 @@ fn instr_at<A: Allocator>(body: &Body<'_, A>, pc: usize) -> Instr
     body.instructions()[pc]
 }
 
-/// Whether an instruction, which stands at `pc` among `count`, jumps to a later one, if at all.
+/// Returns whether an instruction, which is at `pc` among `count`, jumps to a later one or does not jump.
 fn is_jump_forward(instr: Instr, pc: usize, count: usize) -> bool
     ensures { IsTrue result ↔ IfSome (target_of instr)
         (λ target. (pc < target) × (target < count)) }
@@ -71,24 +71,24 @@ fn is_jump_forward(instr: Instr, pc: usize, count: usize) -> bool
     }
 }
 
-/// Whether an instruction invokes a routine that is there and behind its body, if any.
+/// Returns whether an instruction invokes a routine that exists and has a higher number than the body, or invokes none.
 fn is_call_forward<A: Allocator>(body: &Body<'_, A>, instr: Instr) -> bool
     ensures { IsTrue result ↔ IsCallForward body.now instr }
 {
     match instr {
-        Instr::Invoke { routine, .. } => is_behind(body, routine),
+        Instr::Invoke { routine, .. } => is_beyond(body, routine),
         _ => true,
     }
 }
 
-/// Whether a routine is there and behind a body.
-fn is_behind<A: Allocator>(body: &Body<'_, A>, routine: u16) -> bool
+/// Returns whether a routine exists and has a higher number than a body.
+fn is_beyond<A: Allocator>(body: &Body<'_, A>, routine: u16) -> bool
     ensures { IsTrue result ↔ ((body.now.around.number < routine) × IsSome (routine_at body.now routine)) }
 {
     body.number() < routine && body.routine(routine).is_some()
 }
 
-/// Whether the target is greater than `pc` and less than `count`.
+/// Returns whether the target is greater than `pc` and less than `count`.
 fn is_between(target: usize, pc: usize, count: usize) -> bool
     ensures { IsTrue result ↔ ((pc < target) × (target < count)) }
 {

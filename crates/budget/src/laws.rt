@@ -1,4 +1,4 @@
-//! A law of budgets, the contract of a function that does nothing.
+//! A law of budgets: the contract of a function that does nothing.
 ghost use Rattle.budget.specs.Laws.{HasOneBudget};
 
 /// Code has at most one budget.

@@ -10,10 +10,11 @@ use crate::MAX_BUDGET;
 use mcode::{Body, Code, Instr};
 use std::alloc::{AllocError, Allocator};
 
-/// The budget of code in which every jump and every invocation goes forward: the greatest number of instructions on a
-/// path from instruction 0 of the main body, where an invocation counts its routine's too, and 0 where there is no
-/// instruction. None where the budget of some body is above `MAX_BUDGET`. Its time and memory, which is 8 bytes for
-/// each instruction of a body until it returns, grow with how many instructions there are. Refuses where memory does.
+/// Returns the budget of code in which every jump and every invocation goes forward: the largest number of instructions
+/// on a path from instruction 0 of the main body, 0 if it has no instructions. An invocation also counts the budget of
+/// its routine. Returns `None` if the budget of some body is above `MAX_BUDGET`. Takes time linear in the number of all
+/// instructions. Allocates 4 bytes for each body, and 8 bytes for each instruction of the body at hand. Fails if an
+/// allocation fails.
 pub fn longest<A: Allocator + Copy>(alloc: A, code: &Code<A>) -> Result<Option<u32>, AllocError>
     requires { AllForward code.now }
     ensures { IfOk result (λ found. MatchOption found ((b : ℕ) × IsOver code.now b)
@@ -29,7 +30,7 @@ pub fn longest<A: Allocator + Copy>(alloc: A, code: &Code<A>) -> Result<Option<u
     Ok(Some(main_budget(budgets.as_slice())))
 }
 
-/// The budget of the main body among those of all bodies.
+/// Returns the budget of the main body, given those of all bodies.
 fn main_budget(budgets: &[u32]) -> u32
     requires { 0 < length budgets.now }
     ensures { result ≡ slice_index budgets.now 0 }
@@ -37,7 +38,7 @@ fn main_budget(budgets: &[u32]) -> u32
     budgets[0]
 }
 
-/// The budget of one body of code.
+/// Returns the budget of one body of code, or `None` if it is above `MAX_BUDGET`. Fails if an allocation fails.
 fn budget_at<A: Allocator + Copy>(
     alloc: A,
     code: &Code<A>,
@@ -53,7 +54,8 @@ fn budget_at<A: Allocator + Copy>(
     budget_of(alloc, &Body::of(code, number), budgets)
 }
 
-/// The budget of a body, by those of the routines that it invokes; none where it is above `MAX_BUDGET`.
+/// Returns the budget of a body, given those of the routines that it invokes, or `None` if it is above `MAX_BUDGET`.
+/// Fails if an allocation fails.
 pub fn budget_of<A: Allocator + Copy>(
     alloc: A,
     body: &Body<'_, A>,
@@ -68,7 +70,7 @@ pub fn budget_of<A: Allocator + Copy>(
     Ok(within_limit(budget))
 }
 
-/// A budget, where it isn't above `MAX_BUDGET`.
+/// Returns the budget, or `None` if it is above `MAX_BUDGET`.
 fn within_limit(budget: u64) -> Option<u32>
     ensures { MatchOption result (most_budget < budget) (λ n. (n ≡ budget) × (n ≤ most_budget)) }
 {
@@ -78,7 +80,7 @@ fn within_limit(budget: u64) -> Option<u32>
     Some(budget as u32)
 }
 
-/// The budget of a body of these instructions.
+/// Returns the budget of a body of these instructions, 0 without instructions.
 fn longest_of<A: Allocator + Copy>(
     alloc: A,
     instructions: &[Instr],
@@ -95,7 +97,7 @@ fn longest_of<A: Allocator + Copy>(
     Ok(number_at(numbers.as_slice(), 0))
 }
 
-/// The most that a path from `pc` counts, by the numbers of all later places.
+/// Returns the largest number that a path from `pc` counts, given these numbers for all later places.
 fn longest_from(instructions: &[Instr], pc: usize, budgets: &[u32], numbers: &[u64]) -> u64
     requires count { length instructions.now ≤ MAX_COUNT }
     requires inside { pc < length instructions.now }
@@ -108,7 +110,8 @@ fn longest_from(instructions: &[Instr], pc: usize, budgets: &[u32], numbers: &[u
     weight(instructions[pc], budgets) + onward_number(instructions[pc], pc, numbers)
 }
 
-/// How many instructions an instruction counts: those of its routine too, where it invokes one.
+/// Returns the number of instructions that an instruction counts: one, and if it invokes a routine, the budget of that
+/// routine too.
 fn weight(instr: Instr, budgets: &[u32]) -> u64
     ensures value { result ≡ weight budgets.now instr }
     ensures small { result ≤ most_weight }
@@ -119,7 +122,7 @@ fn weight(instr: Instr, budgets: &[u32]) -> u64
     }
 }
 
-/// The budget of a body, 0 where the body isn't there.
+/// Returns the budget of a body, 0 if the body doesn't exist.
 fn budget_in(budgets: &[u32], number: u16) -> u64
     ensures value { result ≡ slice_index budgets.now number }
     ensures small { result < most_weight }
@@ -130,7 +133,7 @@ fn budget_in(budgets: &[u32], number: u16) -> u64
     }
 }
 
-/// The greater of the numbers at the two places where the instruction at `pc` leads, 0 where it leads nowhere.
+/// Returns the greater of the numbers at the two places to which the instruction at `pc` leads, 0 if it leads nowhere.
 fn onward_number(instr: Instr, pc: usize, numbers: &[u64]) -> u64
     requires { pc < length numbers.now }
     ensures { result ≡ onward_number instr pc numbers.now }
@@ -138,7 +141,7 @@ fn onward_number(instr: Instr, pc: usize, numbers: &[u64]) -> u64
     next_number(instr, pc, numbers).max(target_number(instr, numbers))
 }
 
-/// The number at the next place, where the instruction at `pc` goes on and there is one, else 0.
+/// Returns the number at the next place if the instruction at `pc` goes on and there is one, otherwise 0.
 fn next_number(instr: Instr, pc: usize, numbers: &[u64]) -> u64
     requires { pc < length numbers.now }
     ensures { result ≡ next_number instr pc numbers.now }
@@ -150,7 +153,7 @@ fn next_number(instr: Instr, pc: usize, numbers: &[u64]) -> u64
     }
 }
 
-/// The number at the place where the instruction may jump, where it may, else 0.
+/// Returns the number at the target of the instruction's jump, 0 if it doesn't jump.
 fn target_number(instr: Instr, numbers: &[u64]) -> u64
     ensures { result ≡ target_number instr numbers.now }
 {
@@ -160,7 +163,7 @@ fn target_number(instr: Instr, numbers: &[u64]) -> u64
     }
 }
 
-/// The number at the place, 0 past the end.
+/// Returns the number at the place, 0 after the end.
 fn number_at(numbers: &[u64], place: usize) -> u64
     ensures { result ≡ slice_index numbers.now place }
 {

@@ -1,4 +1,4 @@
--- The parts of code that are read into a builder.
+-- Reading the parts of code into a builder.
 use Rattle.std.specs.Prelude.{Option, Some, None, IfSome}
 use Rattle.std.specs.List.{AllByRecursion}
 use Rattle.std.proofs.Common.{◌≡◌, ℕ, ◌+◌, ◌<◌, ◌≤◌, List, [], ◌∷◌, ◌++◌, length, reverse, refl, sym, ap, subst, ◌∙◌, append_assoc, arith, inl, inr}
@@ -34,9 +34,9 @@ use Rattle.code_file.specs.Parts.{with_constants, with_frames, IsNextRead, with_
 use Rattle.code_file.proofs.FrameLemmas.{frame_begins}
 use Rattle.code_file.proofs.RiseLemmas.{rise_above, above_last, rise_front}
 
--- ---- rows that are read into a builder
+-- ---- rows read into a builder
 
--- constants are terms
+-- a stop in a row of terms is a stop in the row of constants
 pub constant_rows_stop : (bytes : List ℕ) (n : ℕ) (stop : FileStop) → IsStop (rows (constant_format depth_limit) n) bytes (Blames (many (terms depth_limit) n) bytes) stop → IsStop (rows (constant_format depth_limit) n) bytes (Blames (many constants n) bytes) stop
 constant_rows_stop bytes n stop h =
     stop_due (rows (constant_format depth_limit) n) (rows (constant_format depth_limit) n) (many (terms depth_limit) n) (many constants n) bytes bytes stop (λ none. none) (λ file due. Due.constant due) h
@@ -188,7 +188,7 @@ pub main_parts_stop : (bytes : List ℕ) (n : ℕ) (r : List ℕ) (stop : FileSt
 main_parts_stop bytes n r stop h k =
     through_stop body_parts counted_parts bytes (Blames a_body bytes) stop (both_rest_stop slot_count_format (parts_format most_opcode) (a_count (instructions most_opcode)) a_body bytes n r stop slot_count_free h (λ file due. Due.body_instructions due h) k)
 
--- a body of these parts
+-- bytes that begin with these parts begin with a body
 pub body_begins : (bytes : List ℕ) (b : Body) (r s : List ℕ) → Begins slot_count_format bytes b.slots r → Begins (parts_format most_opcode) r (b.instructions, b.frames) s → Begins body_format bytes b s
 body_begins bytes b r s h k =
     let begun = both_begins slot_count_format (parts_format most_opcode) bytes b.slots r (b.instructions, b.frames) s h k in

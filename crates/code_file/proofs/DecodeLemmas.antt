@@ -1,4 +1,4 @@
--- Code that was read from a file, and what follows it.
+-- Code read from a file, and what follows it.
 use Rattle.std.specs.List.{AllByRecursion, flat_map}
 use Rattle.std.proofs.Common.{◌≡◌, ◌≢◌, ℕ, suc, ◌<◌, ◌≤◌, ◌-◌, List, [], ◌∷◌, ◌++◌, All, length, refl, sym, ap, subst, ◌∙◌, append_assoc, arith}
 use Rattle.std.proofs.lemmas.List.{append-nil, length-append}
@@ -31,7 +31,7 @@ pub nothing_left : (rest : List ℕ) → length rest ≡ 0 → rest ≡ []
 nothing_left [] none = refl
 nothing_left (b ∷ rest) none = absurd (omega (arith, none))
 
--- ---- what was read fits code
+-- ---- what was read satisfies the conditions of code
 
 terms_read : (ds : List Datum) → AllByRecursion (constant_format depth_limit).Fits ds → AllByRecursion IsTerm ds
 terms_read [] h = tt
@@ -128,9 +128,9 @@ code_read bytes rest p more h k whole = by p.around.routines refl
       spells = code_spells p whole k.fits;
     }
 
--- ---- what isn't spelled
+-- ---- what is not the file of any code
 
--- what stands behind the version in any code's file
+-- what follows the version in the file of any code
 plain_of : (bytes rest : List ℕ) (p : Program) → IsHeader bytes version rest → Spells bytes p → Begins plain_format rest (plain_parts p) []
 plain_of bytes rest p h s = by p.around.routines refl
   where
@@ -155,7 +155,7 @@ code_stopped bytes rest stop h k =
     stopped code_format a_code bytes rest stop (λ none p s. none (code_parts p) [] (code_in bytes rest p h s))
     (Due.code (Due.behind_magic h.parts) (record { fits = h.fits; parts = refl })) k
 
--- no file goes on as another
+-- no file is the beginning of another one
 no_longer : (bytes : List ℕ) (p q : Program) (more : List ℕ) → IsRead bytes p more → Spells bytes q → more ≡ []
 no_longer bytes p q more h s = by p.around.routines refl
   where

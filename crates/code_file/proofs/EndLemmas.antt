@@ -1,4 +1,4 @@
--- What is left where something is due ends the file.
+-- The rest at which something is due is the end of the file.
 use Rattle.std.proofs.Common.{◌≡◌, ℕ, List, [], ◌∷◌, ◌++◌, refl, sym, ap, ◌∙◌, append_assoc}
 use Rattle.std.proofs.lemmas.List.{append-nil}
 use Rattle.code_writer.specs.File.{magic}
@@ -7,7 +7,7 @@ use Rattle.code_file.specs.declared.stop.FileCause.{FileCause}
 use Rattle.code_file.specs.Due.{Item, Due}
 use Rattle.code_file.specs.Causes.{IsWrong}
 
--- the file ends so
+-- the file ends with this rest
 abbrev pub Ends : List ℕ → List ℕ → Type 0
 Ends file t = (front : List ℕ) × (file ≡ front ++ t)
 

@@ -1,4 +1,4 @@
--- Kinds, places, slots and frames that are read, and what refuses them.
+-- Reading kinds, places, slots and frames, and what stops it.
 use Rattle.std.specs.Prelude.{IfSome}
 use Rattle.std.proofs.Common.{◌≡◌, ◌≢◌, ℕ, ◌<◌, List, [], ◌∷◌, ◌++◌, length, refl, sym, ap, subst, ◌∙◌, append_assoc, arith, Option}
 use Rattle.mcode.specs.Program.{Frame, Rise, place_number}
@@ -36,7 +36,7 @@ kind_short bytes stop h = stop_cut u8_format kind_format 1 a_kind a_kind bytes b
     small kind.Any = omega arith
     small k = omega arith
 
--- no size behind the tag of tuples
+-- no size follows the tag of tuples
 pub kind_short_size : (bytes : List ℕ) (b : ℕ) (r : List ℕ) (stop : FileStop) → Begins u8_format bytes b r → b ≡ 5 → IsStop u16_format r (IsCut 2 r) stop → IsStop kind_format bytes (Blames a_kind bytes) stop
 kind_short_size bytes b r stop h five k =
     stop_cut u16_format kind_format 2 (so_many 2) a_kind r bytes stop refl (λ none l s g. go l (kind_opened bytes b r l s h.parts g) none)
@@ -46,7 +46,7 @@ kind_short_size bytes b r stop h five k =
     go (kind.Tuple n) {s} o none = none n s (record { fits = o.size; parts = o.rest_is })
     go l o none = absurd (omega (arith, o.tag_is, five))
 
--- a byte that is the tag of no kind
+-- a byte that is not the tag of a kind
 pub kind_unnamed : (bytes : List ℕ) (b : ℕ) (r : List ℕ) → Begins u8_format bytes b r → b ≢ 1 → b ≢ 2 → b ≢ 3 → b ≢ 4 → b ≢ 5 → IsRefuted kind_format bytes (Blames a_kind bytes BadOpcode (length bytes))
 kind_unnamed bytes b r h n1 n2 n3 n4 n5 = record {
   none = λ k s l. let o = kind_opened bytes b r k s h.parts l in go k o.some o.tag_is;

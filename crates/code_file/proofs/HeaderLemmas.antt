@@ -1,4 +1,4 @@
--- The front of a code file, and its faults.
+-- The beginning of a code file, and its faults.
 use Rattle.std.proofs.Common.{◌≡◌, ◌≢◌, ℕ, ◌-◌, ◌<◌, List, [], ◌++◌, length, take, drop, ◌∷◌, refl, sym, ap, ◌∙◌, append_assoc, arith}
 use Rattle.std.specs.Prelude.{min, Bool, true}
 use Rattle.std.specs.List.{starts_with}
@@ -48,13 +48,13 @@ stopped F i bytes r stops.Memory none due h other = absurd (other refl)
 stopped F i bytes r (stops.At cause left) none due h other =
     let wrong = h.blame bytes due in record { none = none h.none; why = why_stopped bytes cause left wrong.0 wrong.1 wrong.2 }
 
--- a number that is cut off, where it is due
+-- a number is cut off where it is due
 cut_number : (i : Item) (bytes : List ℕ) (stop : FileStop) → width i ≡ 2 → IsStop u16_format bytes (IsCut 2 bytes) stop → IsStop u16_format bytes (Blames i bytes) stop
 cut_number i bytes stop is h = stop_cut u16_format u16_format 2 i i bytes bytes stop is (λ none. none) (λ file due. due) h
 
 -- ---- the magic
 
--- what is shorter than the magic and its beginning is a beginning of it
+-- bytes shorter than the magic that begin like it are a beginning of it
 pub magic_begins : (bytes front : List ℕ) (n : ℕ) (r : Bool) → r ≡ starts_with eqb magic front → r ≡ true → front ≡ take n bytes → n ≡ min (length bytes) 4 → length bytes < 4 → BeginsWith (take 4 bytes) magic
 magic_begins bytes front n r value so front_is n_is short =
     let same : front ≡ take 4 bytes = front_is ∙ take_all n bytes (omega (arith, n_is)) ∙ sym (take_all 4 bytes (omega arith)) in
@@ -68,7 +68,7 @@ magic_short bytes begins short = record {
 
 -- ---- the version
 
--- each file has one behind its magic
+-- each file has a version after its magic
 version_there : (rest bytes : List ℕ) (p : Program) → bytes ≡ magic ++ rest → Spells bytes p → (n : ℕ) × (s : List ℕ) × Begins u16_format rest n s
 version_there rest bytes p is s = by p.around.routines refl
   where
@@ -88,7 +88,7 @@ header_read bytes rest n more is h = record {
   parts = is ∙ ap (λ (t : List ℕ). magic ++ t) h.parts;
 }
 
--- what a file has behind a version that was read
+-- what a file has after a version that was read
 pub behind_header : (bytes : List ℕ) (n : ℕ) (rest : List ℕ) (p : Program) → IsHeader bytes n rest → Spells bytes p → IsOfVersion n rest p
 behind_header bytes n rest p h s = of_version bytes (u16_bytes n ++ rest) n rest p h.parts (record { fits = h.fits; parts = refl }) s
 

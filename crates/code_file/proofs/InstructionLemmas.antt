@@ -1,4 +1,4 @@
--- What is read behind an opcode, and what refuses it.
+-- Reading what follows an opcode, and what stops it.
 use Rattle.std.specs.Prelude.{◌↔◌, ◌≤◌}
 use Rattle.std.proofs.Common.{◌≡◌, ◌≢◌, ℕ, ◌<◌, ◌^◌, List, [], ◌∷◌, ◌++◌, length, refl, sym, ap, subst, ◌∙◌, arith, Some, None}
 use Rattle.prims_table.specs.Numbers.{function_number, arithmetic_number}
@@ -40,7 +40,7 @@ use Rattle.code_file.specs.Reads.{Blames, IsCut, IsRefuted, IsStop}
 use Rattle.code_file.proofs.StopLemmas.{stop_none, stop_due, stop_cut}
 
 module _ (most : ℕ) where
-  -- ---- what is read behind an opcode
+  -- ---- what is read after an opcode
 
   pub bare_begins : (bytes : List ℕ) (o : Bare) (r : List ℕ) → Begins (opcode_format most) bytes (opcode.Bare o) r → Begins (instruction_format most) bytes (bare_instr o) r
   bare_begins bytes bare.Load r h = record { fits = (tt, h.fits); parts = h.parts }
@@ -64,16 +64,16 @@ module _ (most : ℕ) where
   pub arith_begins : (bytes : List ℕ) (r : List ℕ) (p : Arithmetic × ℕ) (s : List ℕ) → Begins (opcode_format most) bytes opcode.Arith r → Begins (both arithmetic_format u16_format) r p s → Begins (instruction_format most) bytes (instr.Arith p.0 p.1) s
   arith_begins bytes r p s h k = record { fits = (k.fits.1, h.fits); parts = h.parts ∙ ap (λ bs. 18 ∷ bs) k.parts }
 
-  -- ---- refusals
+  -- ---- stops
 
-  -- no byte where the number of one is due
+  -- there is no byte where the number of one is due
   numbered_stop : {X : Type 0} (number : X → ℕ) (Fits : X → Type 0) (i : Item) → width i ≡ 1 → ((x : X) → number x < 2 ^ 8) → (bytes : List ℕ) (stop : FileStop)
       → IsStop u8_format bytes (IsCut 1 bytes) stop → IsStop (record { spell = λ (x : X). number x ∷ []; Fits = Fits }) bytes (Blames i bytes) stop
   numbered_stop {X} number Fits i is small bytes stop h =
       stop_cut u8_format (record { spell = λ (x : X). number x ∷ []; Fits = Fits }) 1 i i bytes bytes stop is
       (λ none x s k. none (number x) s (record { fits = small x; parts = k.parts })) (λ file due. due) h
 
-  -- a byte that isn't the number of any
+  -- a byte is not the number of any
   pub numberless : {X : Type 0} (number : X → ℕ) (Fits : X → Type 0) (bytes : List ℕ) (b : ℕ) (rest : List ℕ)
       → bytes ≡ b ∷ rest → ((x : X) → Fits x → number x ≢ b) → BeginsNone (record { spell = λ (x : X). number x ∷ []; Fits = Fits }) bytes
   numberless number Fits bytes b rest is differs x s h = differs x h.fits (head_is (number x) b s rest (sym h.parts ∙ is))

@@ -1,4 +1,4 @@
--- Binaries, lengths and texts that are read, and what refuses them.
+-- Reading binaries, lengths and texts, and what stops it.
 use Rattle.std.specs.Str.{IsUtf8}
 use Rattle.std.proofs.Common.{◌≡◌, ℕ, ◌<◌, ◌≤◌, ◌^◌, List, ◌++◌, length, refl, sym, ap, subst, ◌∙◌, append_assoc, arith}
 use Rattle.std.proofs.lemmas.List.{length-append}
@@ -16,7 +16,7 @@ use Rattle.code_file.specs.Causes.{IsWrong}
 use Rattle.code_file.specs.Reads.{Blames, IsCut, IsRefuted, IsStop}
 use Rattle.code_file.proofs.StopLemmas.{stop_cut}
 
--- ---- bytes behind their number
+-- ---- bytes after their number
 
 raw_begins : (N : Format ℕ) (bytes : List ℕ) (n : ℕ) (r bs s : List ℕ) → Begins N bytes n r → Begins (bytes_format n) r bs s → Begins (raw N) bytes bs s
 raw_begins N bytes n r bs s h k = record {

@@ -1,4 +1,4 @@
--- Terms with so many levels left: what is read of those with parts, and what is refused.
+-- Terms with a number of levels left: reading those with parts, and what stops it.
 use Rattle.std.specs.Str.{encode_utf8_all, chars}
 use Rattle.std.specs.List.{flat_map}
 use Rattle.std.proofs.Common.{◌≡◌, ◌≢◌, ℕ, suc, ◌-◌, ◌<◌, ◌≤◌, List, [], ◌∷◌, ◌++◌, length, refl, sym, ap, subst, ◌∙◌, append_assoc, arith, Bool, true, false, ◌&&◌}
@@ -47,20 +47,20 @@ tag_short room bytes stop h = stop_cut u8_format (constant_format room) 1 (a_ter
     first : (d : Datum) (s : List ℕ) → Begins (constant_format room) bytes d s → BeginsNone u8_format bytes → ⊥
     first d s k none = none (tag_of (node_of d)) (rest_bytes (node_of d) ++ s) (record { fits = small (node_of d); parts = k.parts ∙ ap (λ (bs : List ℕ). bs ++ s) (spelled d) })
 
--- no level left
+-- no level is left
 pub level_past : (bytes : List ℕ) (b : ℕ) (r : List ℕ) → Begins u8_format bytes b r → IsRefuted (constant_format 0) bytes (Blames (a_term 0) bytes causes.Limit (length bytes))
 level_past bytes b r h = record {
   none = λ d s k. omega (arith, some_depth d, k.fits.1);
   blame = λ file due. (b ∷ r, ap length h.parts, IsWrong.too_deep (subst (Due file (a_term 0)) h.parts due));
 }
 
--- a term is due, of which the tag was read
+-- a term is due whose tag was read
 tagged : {file : List ℕ} (room level : ℕ) (bytes : List ℕ) (b : ℕ) (r : List ℕ) → suc room ≡ level → Begins u8_format bytes b r → Due file (a_term level) bytes → Due file (a_term (suc room)) (b ∷ r)
 tagged {file} room level bytes b r next h due = subst (λ l. Due file (a_term l) (b ∷ r)) (sym next) (subst (Due file (a_term level)) h.parts due)
 
 -- ---- terms without parts
 
--- what is behind a tag refutes the term
+-- if what follows a tag is not spelled, neither is the term
 behind_none : {X : Type 0} (F : Format X) (room level : ℕ) (bytes : List ℕ) (b : ℕ) (r : List ℕ) → suc room ≡ level → Begins u8_format bytes b r
     → ((n : Node) (s : List ℕ) → Opened b r room n s → BeginsNone F r → ⊥) → BeginsNone F r → BeginsNone (constant_format level) bytes
 behind_none F room level bytes b r next h out none d s k = out (node_of d) s (opened room bytes b r d s h.parts (subst (λ l. Begins (constant_format l) bytes d s) (sym next) k)) none
@@ -82,7 +82,7 @@ content_stop room level bytes r stop next h k =
     stop_due binary_format (constant_format level) a_binary_size (a_term level) r bytes stop
     (behind_none binary_format room level bytes 7 r next h (λ n s o m. let v = binary_in r room n s o in m v.0 s v.2)) (λ file due. Due.binary_size (tagged room level bytes 7 r next h due)) k
 
--- a text that is there
+-- bytes that begin with a text begin with its atom
 pub atom_begins : (level : ℕ) (bytes r bs s : List ℕ) → 0 < level → Begins u8_format bytes 2 r → Begins utf8_format r bs s → IsTerm (atom (chars bs)) → Begins (constant_format level) bytes (atom (chars bs)) s
 atom_begins level bytes r bs s some h k term =
     let same = encodes-chars bs k.fits.1 in
@@ -130,11 +130,11 @@ not_deep cs fault.TooLong h = (λ is. cc, λ is. cc)
 not_deep cs fault.TooDeep h = absurd (omega (arith, h))
 not_deep cs fault.DuplicateKey h = absurd h
 
--- a term that is there is refused for want of memory alone
+-- making a term that is spelled fails only if memory runs out
 pub made : (level : ℕ) (bytes : List ℕ) (d : Datum) (s : List ℕ) (f : Fault) → level < 256 → Begins (constant_format level) bytes d s → IsFault f d → f ≡ fault.Memory
 made level bytes d s f small h k = term-refused f d (record { sound = h.fits.0; shallow = omega (arith, h.fits.1) }) k
 
--- the same of what is within its limits by itself
+-- making a binary that is spelled fails only if memory runs out
 pub binary_made : (r bs s : List ℕ) (f : Fault) → Begins binary_format r bs s → IsFault f (binary bs) → f ≡ fault.Memory
 binary_made r bs s fault.Memory h k = refl
 binary_made r bs s fault.TooDeep h k = absurd (omega (arith, k))
@@ -144,7 +144,7 @@ binary_made r bs s fault.DuplicateKey h k = absurd k
 pub nil_begins : (level : ℕ) (bytes : List ℕ) (b : ℕ) (r : List ℕ) → 0 < level → b ≡ 5 → Begins u8_format bytes b r → Begins (constant_format level) bytes nil r
 nil_begins level bytes b r some five h = record { fits = (tt, omega arith); parts = h.parts ∙ ap (λ c. c ∷ r) five }
 
--- a byte that is the tag of no term
+-- a byte is not the tag of a term
 pub tag_unnamed : (room level : ℕ) (bytes : List ℕ) (b : ℕ) (r : List ℕ) → suc room ≡ level → Begins u8_format bytes b r → b ≢ 1 → b ≢ 2 → b ≢ 3 → b ≢ 4 → b ≢ 5 → b ≢ 6 → b ≢ 7
     → IsRefuted (constant_format level) bytes (Blames (a_term level) bytes causes.BadOpcode (length bytes))
 tag_unnamed room level bytes b r next h n1 n2 n3 n4 n5 n6 n7 = record {
@@ -201,7 +201,7 @@ tuple_begins room level bytes r n t ds s next h k l =
           ∙ ap (λ (x : List ℕ). x ++ s) (sym (tuple_bytes ds));
     }
 
--- a term is the row of one
+-- one term is a row of one
 pub row_of_one : (room : ℕ) (bytes : List ℕ) (d : Datum) (s : List ℕ) → Begins (constant_format room) bytes d s → IsRowSoFar (constant_format room) (λ _. Unit {0}) bytes (d ∷ []) s 1
 row_of_one room bytes d s h = plain_step (constant_format room) bytes [] bytes 0 d s (row_start (constant_format room) (λ _. Unit {0}) bytes tt) h
 
@@ -319,7 +319,7 @@ list_short room level bytes r stop next h k =
     none (length l.0) (flat_map constant_bytes l.0 ++ (constant_bytes l.1 ++ s)) (counted_first length_format (constant_format room) r l.0 (constant_bytes l.1 ++ s) first)))
     (λ file due. Due.list_length (tagged room level bytes 6 r next h due)) k
 
--- the elements that were read are those of any list there
+-- if a list's elements are not spelled, the list is not spelled
 elements_none : (room level : ℕ) (bytes r : List ℕ) (n : ℕ) (t : List ℕ) → suc room ≡ level → Begins u8_format bytes 6 r → Begins length_format r n t → BeginsNone (rows (constant_format room) n) t → BeginsNone (constant_format level) bytes
 elements_none room level bytes r n t next h k none = list_none room level bytes r next h (λ l s m.
     none l.0 (constant_bytes l.1 ++ s) (counted_rest length_format (constant_format room) length_free r n t l.0 (constant_bytes l.1 ++ s) k (both_first (elements_format room) (end_format room) r l s m)))
@@ -330,7 +330,7 @@ list_stop room level bytes r n t stop next h k l =
     stop_due (rows (constant_format room) n) (constant_format level) (many (terms room) n) (a_term level) t bytes stop
     (elements_none room level bytes r n t next h k) (λ file due. Due.elements (tagged room level bytes 6 r next h due) k) l
 
--- a list behind its elements
+-- if what follows a list's elements is not spelled as a tail, the list is not spelled
 tail_none : (room level : ℕ) (bytes r : List ℕ) (n : ℕ) (t : List ℕ) (ds : List Datum) (u : List ℕ) → suc room ≡ level → Begins u8_format bytes 6 r → Begins length_format r n t → Begins (rows (constant_format room) n) t ds u
     → BeginsNone (end_format room) u → BeginsNone (constant_format level) bytes
 tail_none room level bytes r n t ds u next h k l none = list_none room level bytes r next h (λ e s m.
@@ -341,7 +341,7 @@ list_parts : (room : ℕ) (bytes r : List ℕ) (n : ℕ) (t : List ℕ) (ds : Li
     → bytes ≡ (6 ∷ u32_bytes n ++ flat_map constant_bytes ds) ++ u
 list_parts room bytes r n t ds u h k l = h.parts ∙ ap (λ (x : List ℕ). 6 ∷ x) (k.parts ∙ ap (λ (x : List ℕ). u32_bytes n ++ x) l.parts ∙ sym (append_assoc (u32_bytes n) (flat_map constant_bytes ds) u))
 
--- the tail of a list is due behind its elements
+-- the tail of a list is due after its elements
 tail_due : {file : List ℕ} (room level : ℕ) (bytes r : List ℕ) (n : ℕ) (t : List ℕ) (ds : List Datum) (u : List ℕ) → suc room ≡ level → Begins u8_format bytes 6 r → Begins length_format r n t → Begins (rows (constant_format room) n) t ds u
     → Due file (a_term level) bytes → Due file (a_tail room) u
 tail_due room level bytes r n t ds u next h k l due = Due.tail (tagged room level bytes 6 r next h due) (counted_begins length_format (constant_format room) r n t ds u k l)
@@ -353,7 +353,7 @@ tail_stop room level bytes r n t ds u stop next h k l no_six m =
     (λ none. tail_none room level bytes r n t ds u next h k l (λ e s o. none e s (record { fits = o.fits.0; parts = o.parts })))
     (λ file due. Due.tail_term (tail_due room level bytes r n t ds u next h k l due) no_six) m
 
--- the tag of a list where a tail is due
+-- the tag of a list is where a tail is due
 pub tail_joined : (room level : ℕ) (bytes r : List ℕ) (n : ℕ) (t : List ℕ) (ds : List Datum) (u : List ℕ) → suc room ≡ level → Begins u8_format bytes 6 r → Begins length_format r n t → Begins (rows (constant_format room) n) t ds u
     → BeginsWith (6 ∷ []) u → IsRefuted (constant_format level) bytes (Blames (a_term level) bytes causes.NotCanonical (length u))
 tail_joined room level bytes r n t ds u next h k l six = record {

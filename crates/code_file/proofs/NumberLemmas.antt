@@ -1,4 +1,4 @@
--- Numbers and rows of bytes that are read.
+-- Reading numbers and rows of bytes.
 use Rattle.std.specs.Int.{w16, w32, w64, to_be_bytes, from_be_bytes, cast_unsigned, cast_signed}
 use Rattle.byteorder.specs.Endian.{big_number}
 use Rattle.std.proofs.Common.{◌≡◌, ℕ, ℤ, ◌<◌, ◌≤◌, ◌^◌, List, ◌++◌, length, get_or, take, drop, refl, sym, ap, ◌∙◌, arith, inl, inr}
@@ -16,7 +16,7 @@ use Rattle.code_file.specs.declared.stop.FileCause.TheVariants.{Truncated}
 
 -- ---- what is read
 
--- each is a byte, by its place
+-- each number is a byte, by its place
 abbrev pub AreBytesAt : List ℕ → Type 0
 AreBytesAt bytes = (i : ℕ) → get_or bytes i 0 < 256
 
@@ -27,7 +27,7 @@ AreBytesAt-take n bytes h i =
       | inr le ↦ rw (get_or_past (take n bytes) i 0 (omega (arith, length-take n bytes))) (omega arith)
     ]
 
--- fewer bytes than the number has
+-- there are fewer bytes than the number has
 pub too_short : {X : Type 0} (F : Format X) (n : ℕ) (bytes : List ℕ) → ((x : X) → F.Fits x → n ≤ length (F.spell x)) → length bytes < n → IsRefuted F bytes (IsCut n bytes Truncated 0)
 too_short F n bytes long short = record {
   none = λ x rest h. omega (arith, long x h.fits, ap length h.parts, length-append (F.spell x) rest);
@@ -52,7 +52,7 @@ bytes_read n bytes front rest long front_is rest_is = record {
   parts = rw (front_is, rest_is) (sym (take-append-drop n bytes));
 }
 
--- the number in so many bytes is the one that std reads there
+-- the number in two bytes is the one that the standard library reads
 same_2 : (bytes : List ℕ) → big_number 2 bytes ≡ from_be_bytes w16 bytes
 same_2 bytes = omega arith
 

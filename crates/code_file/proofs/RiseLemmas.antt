@@ -1,4 +1,4 @@
--- What is above the last of a row that rises.
+-- What is above the last element of an ascending row.
 use Rattle.std.specs.Prelude.{IfSome}
 use Rattle.std.proofs.Common.{◌≡◌, ℕ, zero, suc, ◌+◌, ◌<◌, List, [], ◌∷◌, ◌++◌, length, get_or, refl, sym, ap, subst, ◌∙◌, append_assoc, arith, Option, Some, None}
 use Rattle.std.proofs.lemmas.List.{get_or_append_left, length-append}
@@ -25,7 +25,7 @@ last_at (y ∷ front) x (suc n) d long = last_at front x n d (omega (arith, long
 rise_one : {X : Type 0} (number : X → ℕ) (x : X) → Rise number (x ∷ [])
 rise_one number x k d within = absurd (omega arith)
 
--- above the last is above all
+-- what is above the last element is above all
 pub rise_above : {X : Type 0} (number : X → ℕ) (xs : List X) (last : Option ℕ) (y : X) → LastIs number xs last → Rise number xs → (IfSome last (λ l. l < number y) → Rise number (xs ++ y ∷ [])) × (Rise number (xs ++ y ∷ []) → IfSome last (λ l. l < number y))
 rise_above {X} number xs None y is up = (λ _. subst (λ (zs : List X). Rise number (zs ++ y ∷ [])) (sym is) (rise_one number y), λ _. tt)
 rise_above {X} number xs (Some n) y is up = (

@@ -1,4 +1,4 @@
--- Routines that are read into a builder.
+-- Reading routines into a builder.
 use Rattle.std.specs.Prelude.{Result, Ok, Err}
 use Rattle.std.proofs.Common.{◌≡◌, ◌≢◌, ℕ, suc, ◌+◌, ◌-◌, ◌<◌, ◌≤◌, List, [], ◌∷◌, ◌++◌, length, refl, sym, ap, subst, ◌∙◌, append_assoc, arith}
 use Rattle.std.proofs.lemmas.List.{append-nil, length-append}
@@ -25,7 +25,7 @@ use Rattle.code_file.proofs.StopLemmas.{stop_due, stop_cut, both_first_stop, bot
 use Rattle.code_file.proofs.RowLemmas.{IsRowSoFar, row_start, plain_step, plain_end, plain_stop}
 use Rattle.code_file.proofs.BodyLemmas.{body_begins, main_slots_stop, main_parts_stop}
 
--- ---- kinds that may be any
+-- ---- kinds that may be Any
 
 pub any_kind_short : (bytes : List ℕ) (stop : FileStop) → IsStop u8_format bytes (IsCut 1 bytes) stop → IsStop any_kind_format bytes (Blames a_signature_kind bytes) stop
 any_kind_short bytes stop h = stop_cut u8_format any_kind_format 1 a_signature_kind a_signature_kind bytes bytes stop refl (λ none k s l. go none k s l) (λ file due. due) h
@@ -41,7 +41,7 @@ any_kind_short bytes stop h = stop_cut u8_format any_kind_format 1 a_signature_k
 pub any_begins : (bytes : List ℕ) (b : ℕ) (r : List ℕ) → Begins u8_format bytes b r → b ≡ 0 → Begins any_kind_format bytes kind.Any r
 any_begins bytes b r h zero = record { fits = tt; parts = h.parts ∙ ap (λ (c : ℕ). c ∷ r) zero }
 
--- a kind that isn't Any is spelled as in frames
+-- a kind other than Any is spelled as in frames
 pub told_begins : (bytes : List ℕ) (k : Kind) (s : List ℕ) → Begins kind_format bytes k s → Begins any_kind_format bytes k s
 told_begins bytes kind.Any s h = absurd (h.fits.1 refl)
 told_begins bytes kind.Int s h = record { fits = h.fits.0; parts = h.parts }

@@ -26,7 +26,7 @@ row_more F bytes xs rest y r so_far next =
     so_far ∙ ap (λ (t : List ℕ). flat_map F.spell xs ++ t) next ∙ sym (append_assoc (flat_map F.spell xs) (F.spell y) r)
     ∙ ap (λ (t : List ℕ). t ++ r) (ap (λ (t : List ℕ). flat_map F.spell xs ++ t) (sym (append-nil (F.spell y))) ∙ sym (flat_map-append F.spell xs (y ∷ [])))
 
--- ---- a row with a property that its beginnings have
+-- ---- a row with a property that its beginnings have too
 
 pub such_rows_none : {X : Type 0} (F : Format X) (P : List X → Type 0) → IsPrefixFree F → ((xs : List X) (z : X) (zs : List X) → P (xs ++ z ∷ zs) → P (xs ++ z ∷ []))
     → (n : ℕ) (bytes : List ℕ) (xs : List X) (rest : List ℕ) → bytes ≡ flat_map F.spell xs ++ rest → AllByRecursion F.Fits xs → length xs < n
@@ -43,14 +43,14 @@ such_rows_none {X} F P free closed n bytes xs rest so_far each fewer none ys s h
       parts = behind ∙ append_assoc (F.spell z) (flat_map F.spell zs) s;
     })
 
--- the same of any row
+-- a row whose next value is not spelled is not spelled
 pub rows_none : {X : Type 0} (F : Format X) → IsPrefixFree F → (n : ℕ) (bytes : List ℕ) (xs : List X) (rest : List ℕ) → bytes ≡ flat_map F.spell xs ++ rest → AllByRecursion F.Fits xs → length xs < n
     → BeginsNone F rest → BeginsNone (rows F n) bytes
 rows_none F free n bytes xs rest so_far each fewer none ys s k =
     such_rows_none F (λ _. Unit {0}) free (λ _ _ _ _. tt) n bytes xs rest so_far each fewer (λ y r l. none y r (record { fits = l.fits.0; parts = l.parts })) ys s
     (record { fits = (k.fits, tt); parts = k.parts })
 
--- ---- rows behind their number
+-- ---- rows after their number
 
 pub such_counted_begins : {X : Type 0} (N : Format ℕ) (F : Format X) (P : List X → Type 0) (bytes : List ℕ) (n : ℕ) (r : List ℕ) (xs : List X) (s : List ℕ)
     → Begins N bytes n r → Begins (such (rows F n) P) r xs s → Begins (such (counted N F) P) bytes xs s
@@ -99,7 +99,7 @@ pub row_end : {X : Type 0} (F : Format X) (P : List X → Type 0) (bytes : List 
     → IsRowSoFar F P bytes xs rest n → Begins (such (rows F n) P) bytes xs rest
 row_end F P bytes xs rest n h = record { fits = ((h.count, h.each), h.so); parts = h.parts }
 
--- the next value of a row, which is due in it
+-- the stop at the next value of a row, which is due in it
 pub row_stop : {X : Type 0} (F : Format X) (P : List X → Type 0) (i j : Item) → IsPrefixFree F → ((xs : List X) (z : X) (zs : List X) → P (xs ++ z ∷ zs) → P (xs ++ z ∷ []))
     → (bytes : List ℕ) (xs : List X) (rest : List ℕ) (k n : ℕ) (stop : FileStop) → IsRowSoFar F P bytes xs rest k → k < n
     → ((file : List ℕ) → Due file j bytes → Begins (such (rows F k) P) bytes xs rest → Due file i rest)
@@ -115,7 +115,7 @@ not_so h p = absurd (never (h p))
     never : false ≡ true → ⊥
     never is = cc
 
--- a row of any values
+-- a row of any values, with one more
 pub plain_step : {X : Type 0} (F : Format X) (bytes : List ℕ) (xs : List X) (rest : List ℕ) (n : ℕ) (y : X) (r : List ℕ)
     → IsRowSoFar F (λ _. Unit {0}) bytes xs rest n → Begins F rest y r → IsRowSoFar F (λ _. Unit {0}) bytes (xs ++ y ∷ []) r (n + 1)
 plain_step F bytes xs rest n y r h k = row_step F (λ _. Unit {0}) bytes xs rest n y r h (record { fits = (k.fits, tt); parts = k.parts })
@@ -123,7 +123,7 @@ plain_step F bytes xs rest n y r h k = row_step F (λ _. Unit {0}) bytes xs rest
 pub plain_end : {X : Type 0} (F : Format X) (bytes : List ℕ) (xs : List X) (rest : List ℕ) (n : ℕ) → IsRowSoFar F (λ _. Unit {0}) bytes xs rest n → Begins (rows F n) bytes xs rest
 plain_end F bytes xs rest n h = record { fits = (h.count, h.each); parts = h.parts }
 
--- the next value of a row of any values
+-- the stop at the next value of a row of any values
 pub plain_stop : {X : Type 0} (F : Format X) (i j : Item) → IsPrefixFree F → (bytes : List ℕ) (xs : List X) (rest : List ℕ) (k n : ℕ) (stop : FileStop) → IsRowSoFar F (λ _. Unit {0}) bytes xs rest k → k < n
     → ((file : List ℕ) → Due file j bytes → Begins (rows F k) bytes xs rest → Due file i rest)
     → IsStop F rest (Blames i rest) stop → IsStop (rows F n) bytes (Blames j bytes) stop
@@ -131,7 +131,7 @@ plain_stop F i j free bytes xs rest k n stop h fewer step l =
     stop_due F (rows F n) i j rest bytes stop (rows_none F free n bytes xs rest h.parts h.each (omega (arith, h.count)))
     (λ file due. step file due (plain_end F bytes xs rest k h)) l
 
--- a row of any values behind their number
+-- a row of any values whose number is cut off
 pub counted_short : {X : Type 0} (F : Format X) (row : Row) (bytes : List ℕ) (stop : FileStop) → IsStop u16_format bytes (IsCut 2 bytes) stop → IsStop (counted u16_format F) bytes (Blames (a_count row) bytes) stop
 counted_short F row bytes stop h =
     stop_cut u16_format (counted u16_format F) 2 (a_count row) (a_count row) bytes bytes stop refl (λ none xs s k. none (length xs) (flat_map F.spell xs ++ s) (counted_first u16_format F bytes xs s k)) (λ file due. due) h

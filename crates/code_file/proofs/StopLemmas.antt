@@ -1,4 +1,4 @@
--- A refusal of a part is one of the whole, where the part is due in it.
+-- A stop in a part is a stop in the whole, if the part is due in it.
 use Rattle.std.proofs.Common.{◌≡◌, ℕ, List, [], ◌++◌, length, refl, sym, ap, subst, arith}
 use Rattle.std.proofs.lemmas.List.{length-append}
 use Rattle.code_writer.specs.Format.{Format, Begins, BeginsNone, both, through, such}
@@ -12,13 +12,13 @@ use Rattle.code_file.specs.Due.{Item, Due}
 use Rattle.code_file.specs.Causes.{IsWrong, width}
 use Rattle.code_file.specs.Reads.{Blames, IsCut, IsRefuted, IsStop}
 
--- what isn't there refutes the whole
+-- if the part is not spelled, the whole is not
 pub stop_none : {X Y : Type 0} (F : Format X) (G : Format Y) (r bytes : List ℕ) (blames : FileCause → ℕ → Type 0) (stop : FileStop)
     → (BeginsNone F r → BeginsNone G bytes) → IsStop F r blames stop → IsStop G bytes blames stop
 stop_none F G r bytes blames stops.Memory none h = tt
 stop_none F G r bytes blames (stops.At cause left) none h = record { none = none h.none; blame = h.blame }
 
--- the whole is due here, and then the part there
+-- a part is due where it begins in a whole that is due
 pub stop_due : {X Y : Type 0} (F : Format X) (G : Format Y) (i j : Item) (r bytes : List ℕ) (stop : FileStop)
     → (BeginsNone F r → BeginsNone G bytes) → ((file : List ℕ) → Due file j bytes → Due file i r) → IsStop F r (Blames i r) stop → IsStop G bytes (Blames j bytes) stop
 stop_due F G i j r bytes stops.Memory none step h = tt
@@ -28,13 +28,13 @@ cut_blames : (n : ℕ) (i : Item) (r : List ℕ) (cause : FileCause) (left : ℕ
 cut_blames n i r cause left is cut file due =
     ([], cut.1, subst (λ c. IsWrong file c []) (sym cut.0) (IsWrong.cut_off due (omega (arith, cut.2, is))))
 
--- the same of bytes that are cut off
+-- a part whose bytes are cut off is due where it begins in a whole that is due
 pub stop_cut : {X Y : Type 0} (F : Format X) (G : Format Y) (n : ℕ) (i j : Item) (r bytes : List ℕ) (stop : FileStop) → width i ≡ n
     → (BeginsNone F r → BeginsNone G bytes) → ((file : List ℕ) → Due file j bytes → Due file i r) → IsStop F r (IsCut n r) stop → IsStop G bytes (Blames j bytes) stop
 stop_cut F G n i j r bytes stops.Memory is none step h = tt
 stop_cut F G n i j r bytes (stops.At cause left) is none step h = record { none = none h.none; blame = λ file due. cut_blames n i r cause left is h.blame file (step file due) }
 
--- ---- pairs, values that are seen as others, numbers with a limit
+-- ---- pairs, values mapped by a function, numbers with a limit
 
 pub both_first_stop : {X Y : Type 0} (F : Format X) (G : Format Y) (i j : Item) (bytes : List ℕ) (stop : FileStop) → ((file : List ℕ) → Due file j bytes → Due file i bytes) → IsStop F bytes (Blames i bytes) stop → IsStop (both F G) bytes (Blames j bytes) stop
 both_first_stop F G i j bytes stop step h =

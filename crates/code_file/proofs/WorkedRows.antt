@@ -1,4 +1,4 @@
--- Worked rows: what the definitions say of files.
+-- Examples: what the definitions say about files.
 use Rattle.std.proofs.Common.{◌≡◌, ℕ, List, [], ◌∷◌, ◌++◌, refl, sym, ◌∙◌, arith}
 use Rattle.term_core.specs.Datum.{Datum}
 use Rattle.code_writer.specs.File.{magic}
@@ -20,7 +20,7 @@ unfolding u16_bytes
 after_header t =
     Due.plain_constants {n = 0} (Due.plain_code (Due.behind_magic refl) (record { fits = omega arith; parts = refl })) (record { fits = (omega arith, omega arith); parts = refl })
 
--- behind the number of one constant it is due
+-- a term is due after the number of one constant
 first : (t : List ℕ) → Due (header (0 ∷ 1 ∷ t)) (a_term 255) t
 unfolding u16_bytes
 first t =
@@ -37,7 +37,7 @@ cut = record {
   wrong = IsWrong.cut_off (first []) (omega arith);
 }
 
--- one constant, of no tag
+-- one constant, with an unknown tag
 nameless : IsFileFault (faults.BadOpcode 10) (header (0 ∷ 1 ∷ 9 ∷ []))
 unfolding u16_bytes
 nameless = record {
@@ -66,7 +66,7 @@ no_elements = record {
   wrong = IsWrong.no_elements (Due.list_length {levels = 254} (first (6 ∷ 0 ∷ 0 ∷ 0 ∷ 0 ∷ 9 ∷ []))) (record { fits = omega arith; parts = refl });
 }
 
--- code with routines that has one body alone
+-- code with routines that has only one body
 one_body : IsFileFault (faults.NotCanonical 8) (magic ++ (0 ∷ 2 ∷ 0 ∷ 0 ∷ 0 ∷ 1 ∷ []))
 unfolding u16_bytes
 one_body = record {

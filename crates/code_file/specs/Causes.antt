@@ -1,4 +1,4 @@
--- What is wrong where something is due.
+-- What is wrong where an item is due.
 use Rattle.std.specs.Prelude.{ℕ, suc, ◌≢◌, ◌<◌, List, [], ◌∷◌, length}
 use Rattle.std.specs.Str.{IsUtf8, encode_utf8_all}
 use Rattle.prims_table.specs.Numbers.{function_number, arithmetic_number}
@@ -20,7 +20,7 @@ use Rattle.code_file.specs.Due.Item.{a_magic, a_version, a_plain_code, a_code, a
 use Rattle.code_file.specs.declared.stop.FileCause.{FileCause}
 use Rattle.code_file.specs.declared.stop.FileCause.TheVariants as causes
 
--- How many bytes an item has at least, before what else is due in it.
+-- The number of bytes that an item has at least, before anything else is due in it.
 abbrev pub width : Item → ℕ
 width a_magic = 4
 width a_version = 2
@@ -50,12 +50,12 @@ width a_kind = 1
 width (a_slot vs) = 1
 width (so_many n) = n
 
--- What is wrong in the file, where the last argument is what is left of it.
+-- What is wrong in the file; the last argument is the rest of the file from that place on.
 pub data IsWrong (file : List ℕ) : FileCause → List ℕ → Type 0 where
-  -- the file ends before what is due does
+  -- the file ends before the item that is due does
   cut_off : {i : Item} {t : List ℕ} → Due file i t → length t < width i
       → IsWrong file causes.Truncated []
-  -- a byte begins no term, no instruction and no kind, or is the number of no function
+  -- a byte begins no term, instruction or kind, or is not the number of a function
   no_tag : {levels b : ℕ} {t : List ℕ} → Due file (a_term (suc levels)) (b ∷ t)
       → ((d : Datum) → ¬ BeginsWith (b ∷ []) (constant_bytes d))
       → IsWrong file causes.BadOpcode (b ∷ t)
@@ -68,7 +68,7 @@ pub data IsWrong (file : List ℕ) : FileCause → List ℕ → Type 0 where
       → ((a : Arithmetic) → arithmetic_number a ≢ b) → IsWrong file causes.BadOpcode (b ∷ t)
   no_kind : {b : ℕ} {t : List ℕ} → Due file a_kind (b ∷ t)
       → ((k : Kind) → ¬ BeginsWith (b ∷ []) (kind_bytes k)) → IsWrong file causes.BadOpcode (b ∷ t)
-  -- a key, a frame, a place or a slot isn't above the one before it
+  -- a key, a frame, a place or a slot is not above the one before it
   low_key : {levels : ℕ} {ps : List (Datum × Datum)} {k : Datum} {t u : List ℕ}
       → Due file (a_pair levels ps) t → Begins (constant_format levels) t k u → ¬ IsAboveKeys ps k
       → IsWrong file causes.NotCanonical t
@@ -79,17 +79,18 @@ pub data IsWrong (file : List ℕ) : FileCause → List ℕ → Type 0 where
       → Begins u16_format t n u → ¬ IsAbove place_number ps n → IsWrong file causes.NotCanonical t
   low_slot : {v : ℕ} {vs : List ℕ} {t u : List ℕ} → Due file (a_slot vs) t
       → Begins u8_format t v u → ¬ IsAbove (λ v. v) vs v → IsWrong file causes.NotCanonical t
-  -- there is one body, or none, where code without routines has another version
+  -- there is one body or none, although code without routines has another version
   few_bodies : {n : ℕ} {t u : List ℕ} → Due file a_body_count t → Begins u16_format t n u → n < 2
       → IsWrong file causes.NotCanonical t
-  -- a list has no elements, or a list for its tail, or an atom's bytes aren't UTF-8
+  -- a list has no elements, or a list as its tail, or an atom's bytes are not UTF-8
   no_elements : {t u : List ℕ} → Due file a_list_length t → Begins u32_format t 0 u
       → IsWrong file causes.NotCanonical t
   list_as_tail : {levels : ℕ} {t : List ℕ} → Due file (a_tail levels) t → BeginsWith (6 ∷ []) t
       → IsWrong file causes.NotCanonical t
   no_text : {n : ℕ} {bs t u : List ℕ} → Due file (a_text n) t → Begins (bytes_format n) t bs u
       → ¬ IsUtf8 bs → IsWrong file causes.NotCanonical t
-  -- more slots, bodies or arguments than code has, more elements, bytes or characters than a term has, or a term where no level is left
+  -- there are more slots, bodies or arguments than code may have, or more elements, bytes or characters than a term may
+  -- have, or no level is left for a term
   many_slots : {n : ℕ} {t u : List ℕ} → Due file a_slot_count t → Begins u16_format t n u
       → most_slots < n → IsWrong file causes.Limit t
   many_bodies : {n : ℕ} {t u : List ℕ} → Due file a_body_count t → Begins u16_format t n u

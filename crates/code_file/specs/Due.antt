@@ -1,4 +1,4 @@
--- What is due at a place of a code file, given what stands before it.
+-- What is due at a place of a code file, given the bytes before it.
 use Rattle.std.specs.Prelude.{ℕ, suc, ◌≡◌, ◌-◌, ◌<◌, List, [], ◌∷◌, ◌++◌, take}
 use Rattle.term_core.specs.Datum.{Datum}
 use Rattle.term_core.specs.Sizes.{depth_limit}
@@ -16,18 +16,18 @@ use Rattle.code_writer.specs.File.{magic, version, routine_version, plain_opcode
 use Rattle.code_writer.specs.Format.{Begins, rows, counted, such}
 use Rattle.code_writer.specs.Formats.{u8_format, u16_format, opcode_format, function_format, arithmetic_format, instruction_format, instructions_format, constant_format, constants_format, place_format, places_format, frame_format, pair_format, length_format, size_format, RisingPairs, slot_count_format, body_count_format, body_format, argument_count_format, any_kind_format, arguments_format, signature_format, routine_format}
 
--- these bytes begin so
+-- the second bytes begin with the first
 abbrev pub BeginsWith : List ℕ → List ℕ → Type 0
 BeginsWith front bytes = (more : List ℕ) × (bytes ≡ front ++ more)
 
--- a number is above that of the last of these
+-- a number is above that of the last of these, if there is one
 abbrev pub IsAbove : {X : Type 0} → (X → ℕ) → List X → ℕ → Type 0
 IsAbove number [] n = Unit {0}
 IsAbove number (x ∷ []) n = number x < n
 IsAbove number (x ∷ y ∷ xs) n = IsAbove number (y ∷ xs) n
 
--- what stands behind a number that says how many there are; instructions up to a number, terms and pairs with so many
--- levels left
+-- what comes after a number that says how many items there are; instructions have numbers up to the one given, and
+-- terms and pairs have the given number of levels left
 pub data Row : Type 0 where
   constants : Row
   instructions : ℕ → Row
@@ -39,27 +39,30 @@ pub data Row : Type 0 where
   terms : ℕ → Row
   pairs : ℕ → Row
 
--- what may be due
+-- what may be due at a place of a file
 pub data Item : Type 0 where
   a_magic : Item
   a_version : Item
-  -- what stands behind the version: code without routines, or with some
+  -- what follows the version: code without routines, or code with routines
   a_plain_code : Item
   a_code : Item
   a_slot_count : Item
-  -- the number of bodies, a body, a routine from the number of its arguments on, and the kind of an argument or a result
+  -- the number of bodies, a body, a routine from the number of its arguments on, and the kind of an argument or a
+  -- result
   a_body_count : Item
   a_body : Item
   a_routine : Item
   a_signature_kind : Item
-  -- the number of a row, and so many items of it
+  -- the number of items of a row, and this number of its items
   a_count : Row → Item
   many : Row → ℕ → Item
-  -- a term with so many levels left, which as a list's tail is no list, and a pair behind these
+  -- a term with this number of levels left, a list's tail with this number of levels left, which is not a list, and a
+  -- pair after these
   a_term : ℕ → Item
   a_tail : ℕ → Item
   a_pair : ℕ → List (Datum × Datum) → Item
-  -- the number of an atom's bytes, so many of these, the number of a list's elements and of a binary's bytes
+  -- the number of an atom's bytes, this number of bytes of an atom, the number of a list's elements and of a binary's
+  -- bytes
   a_text_size : Item
   a_text : ℕ → Item
   a_list_length : Item
@@ -67,17 +70,16 @@ pub data Item : Type 0 where
   an_instruction : ℕ → Item
   a_function : Item
   an_arithmetic : Item
-  -- a frame behind these, its depth, a place behind these, its kind, and a slot behind these
+  -- a frame after these, its depth, a place after these, its kind, and a slot after these
   a_frame : List Frame → Item
   a_depth : Item
   a_place : List (ℕ × Kind) → Item
   a_kind : Item
   a_slot : List ℕ → Item
-  -- so many bytes, whatever they are
+  -- this number of bytes, whatever they are
   so_many : ℕ → Item
 
--- Reading the file from its beginning, without fault so far, the item is due where the last argument is what is left of
--- it.
+-- Reading the file from its beginning gives no fault up to a rest, the last argument, and there this item is due.
 pub data Due (file : List ℕ) : Item → List ℕ → Type 0 where
   start : BeginsWith (take 4 file) magic → Due file a_magic file
   behind_magic : {t : List ℕ} → file ≡ magic ++ t → Due file a_version t

@@ -3,7 +3,7 @@ use Rattle.std.specs.Prelude.{ℕ, Option, Some, None}
 use Rattle.code_file.specs.declared.fault.FileFault.{FileFault}
 use Rattle.code_file.specs.declared.fault.FileFault.TheVariants as fault
 
--- the number that programs print
+-- the number that programs print for a fault
 abbrev pub number_of : FileFault → ℕ
 number_of fault.Memory = 1
 number_of fault.BadMagic = 30
@@ -14,7 +14,7 @@ number_of (fault.NotCanonical at) = 34
 number_of (fault.Trailing at) = 35
 number_of fault.Limit = 36
 
--- the byte of the file at which it is met
+-- the byte of the file where a fault is, None if the fault names none
 abbrev pub place_of : FileFault → Option ℕ
 place_of fault.Memory = None
 place_of fault.BadMagic = None

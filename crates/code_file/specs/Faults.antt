@@ -1,4 +1,4 @@
--- What the faults of a file say, and that there is no code in it.
+-- What the faults of a file say, and that it is not the file of any code.
 use Rattle.std.specs.Prelude.{ℕ, ◌≡◌, ◌≢◌, ◌<◌, ◌-◌, List, ◌++◌, length, take}
 use Rattle.mcode.specs.Program.{Program}
 use Rattle.code_writer.specs.Spelling.{u16_bytes}
@@ -12,7 +12,7 @@ use Rattle.code_file.specs.declared.stop.FileStop.TheVariants as stops
 use Rattle.code_file.specs.declared.fault.FileFault.{FileFault}
 use Rattle.code_file.specs.declared.fault.FileFault.TheVariants as faults
 
--- The cause stands behind so many bytes.
+-- The cause is at this byte of the file.
 pub record StandsAt (bytes : List ℕ) (cause : FileCause) (at : ℕ) : Type 0 where
   pub front : List ℕ
   pub rest : List ℕ
@@ -20,7 +20,7 @@ pub record StandsAt (bytes : List ℕ) (cause : FileCause) (at : ℕ) : Type 0 w
   pub at_is : at ≡ length front
   pub wrong : IsWrong bytes cause rest
 
--- More follows a file of so many bytes.
+-- The file of some code ends at this byte, and more bytes follow.
 pub record GoesOn (bytes : List ℕ) (at : ℕ) : Type 0 where
   pub file : List ℕ
   pub more : List ℕ
@@ -30,13 +30,13 @@ pub record GoesOn (bytes : List ℕ) (at : ℕ) : Type 0 where
   pub spells : Spells file code
   pub some : 0 < length more
 
--- the version is another one
+-- the version is neither of the two that exist
 abbrev pub IsOtherVersion : List ℕ → Type 0
 IsOtherVersion bytes =
     (n : ℕ) × IsU16 n × ((n ≢ version) × (n ≢ routine_version))
     × BeginsWith (magic ++ u16_bytes n) bytes
 
--- what a fault says of a file; of one for want of memory nothing is said
+-- what a fault says about a file; nothing for out of memory
 abbrev pub IsFileFault : FileFault → List ℕ → Type 0
 IsFileFault faults.Memory bytes = ⊥
 IsFileFault faults.BadMagic bytes = ¬ BeginsWith (take 4 bytes) magic
@@ -47,7 +47,7 @@ IsFileFault (faults.NotCanonical at) bytes = StandsAt bytes causes.NotCanonical 
 IsFileFault (faults.Trailing at) bytes = GoesOn bytes at
 IsFileFault faults.Limit bytes = (at : ℕ) × StandsAt bytes causes.Limit at
 
--- The bytes are no code file, and the fault says why.
+-- The bytes are not a code file, and the fault says why.
 pub record IsNoFile (bytes : List ℕ) (fault : FileFault) : Type 0 where
   pub none : (p : Program) → ¬ Spells bytes p
   pub why : IsFileFault fault bytes
@@ -59,17 +59,17 @@ at_byte causes.BadOpcode at = faults.BadOpcode at
 at_byte causes.NotCanonical at = faults.NotCanonical at
 at_byte causes.Limit at = faults.Limit
 
--- a stop in a file of so many bytes
+-- the fault for a stop in a file of this size
 abbrev pub fault_of : FileStop → ℕ → FileFault
 fault_of stops.Memory size = faults.Memory
 fault_of (stops.At cause left) size = at_byte cause (size - left)
 
--- The version is read, behind the magic.
+-- The magic and this version were read, with this rest.
 pub record IsHeader (bytes : List ℕ) (version : ℕ) (rest : List ℕ) : Type 0 where
   pub fits : IsU16 version
   pub parts : bytes ≡ magic ++ (u16_bytes version ++ rest)
 
--- The code is read, up to this rest: what stands before that is its file.
+-- The code was read, up to this rest: the bytes before the rest are its file.
 pub record IsRead (bytes : List ℕ) (p : Program) (rest : List ℕ) : Type 0 where
   pub parts : bytes ≡ file_bytes p ++ rest
   pub spells : Spells (file_bytes p) p

@@ -1,4 +1,4 @@
-//! The parts of code, read into a builder.
+//! Reading the parts of code into a builder.
 ghost use Rattle.std.specs.Prelude.{◌≡◌, ◌<◌, ◌≤◌, length, ◌++◌, ◌∷◌, [], IfOk, IfErr, OnOk};
 ghost use Rattle.mcode.specs.Building.{empty_program, with_constant};
 ghost use Rattle.mcode.specs.Program.{Rise, frame_number, most_parts, most_slots};
@@ -21,7 +21,7 @@ use mcode::Builder;
 use std::alloc::{AllocError, Allocator};
 use term_core::{MAX_DEPTH, Term};
 
-/// The constants.
+/// Reads the constants of code.
 pub(crate) fn read_constants<A: Allocator + Copy>(
     alloc: A,
     bytes: &[u8],
@@ -34,7 +34,7 @@ pub(crate) fn read_constants<A: Allocator + Copy>(
     Ok((constants, rest))
 }
 
-/// Adds a constant, where there are fewer than there may be.
+/// Appends a constant. There is room for one more.
 fn add_constant<A: Allocator>(builder: &mut Builder<A>, term: Term<A>) -> Result<(), AllocError>
     requires { length builder.old.constants < most_parts }
     ensures { OnOk result (builder.new ≡ with_constant builder.old term) }
@@ -45,7 +45,7 @@ fn add_constant<A: Allocator>(builder: &mut Builder<A>, term: Term<A>) -> Result
     Ok(())
 }
 
-/// Code without parts over so many slots.
+/// Makes code without parts, with this number of slots.
 fn builder_over<A: Allocator + Copy>(alloc: A, slots: u16) -> Result<Builder<A>, AllocError>
     requires { slots ≤ most_slots }
     ensures { IfOk result (λ builder. builder ≡ empty_program slots) }
@@ -54,7 +54,7 @@ fn builder_over<A: Allocator + Copy>(alloc: A, slots: u16) -> Result<Builder<A>,
     Ok(builder)
 }
 
-/// Code over so many slots that has these constants and no other parts.
+/// Makes code with this number of slots, these constants and no other parts.
 pub(crate) fn builder_of<A: Allocator + Copy>(
     alloc: A,
     slots: u16,
@@ -73,7 +73,7 @@ pub(crate) fn builder_of<A: Allocator + Copy>(
     Ok(builder)
 }
 
-/// So many instructions.
+/// Reads `count` instructions, with opcodes up to `most`, into the builder.
 fn read_instr_rows<'a, A: Allocator>(
     most: u8,
     builder: &mut Builder<A>,
@@ -97,7 +97,7 @@ fn read_instr_rows<'a, A: Allocator>(
     Ok(rest)
 }
 
-/// The instructions.
+/// Reads the number of instructions and then these, with opcodes up to `most`, into the builder.
 fn read_instrs<'a, A: Allocator>(
     most: u8,
     builder: &mut Builder<A>,
@@ -116,7 +116,8 @@ fn read_instrs<'a, A: Allocator>(
     read_instr_rows(most, builder, count, rest)
 }
 
-/// A frame above those that are there, of which this is the last one's number. Answers its own.
+/// Reads a frame into the builder. It has to be above those that are there, of which `last` is the last one's number.
+/// Returns its own number and the rest.
 fn read_frame<'a, A: Allocator + Copy>(
     alloc: A,
     builder: &mut Builder<A>,
@@ -141,7 +142,7 @@ fn read_frame<'a, A: Allocator + Copy>(
     Ok((pc, rest))
 }
 
-/// So many frames, which rise.
+/// Reads `count` frames, in ascending order, into the builder.
 fn read_frame_rows<'a, A: Allocator + Copy>(
     alloc: A,
     builder: &mut Builder<A>,
@@ -165,7 +166,7 @@ fn read_frame_rows<'a, A: Allocator + Copy>(
     Ok(rest)
 }
 
-/// The frames.
+/// Reads the number of frames and then these into the builder.
 fn read_frames<'a, A: Allocator + Copy>(
     alloc: A,
     builder: &mut Builder<A>,
@@ -181,7 +182,7 @@ fn read_frames<'a, A: Allocator + Copy>(
     read_frame_rows(alloc, builder, count, rest)
 }
 
-/// The instructions of a body, up to this opcode, and its frames.
+/// Reads the instructions of a body, with opcodes up to `most`, and its frames.
 pub(crate) fn read_parts<'a, A: Allocator + Copy>(
     alloc: A,
     most: u8,
@@ -202,7 +203,7 @@ pub(crate) fn read_parts<'a, A: Allocator + Copy>(
     Ok(rest)
 }
 
-/// The main body of code with these constants and with routines.
+/// Reads the main body of code with these constants and with routines.
 pub(crate) fn read_main<A: Allocator + Copy>(
     alloc: A,
     constants: Vec<Term<A>, A>,

@@ -1,4 +1,4 @@
-//! Constants at the front of a file's rest.
+//! Reading constants.
 ghost use Rattle.std.specs.Prelude.{◌≡◌, ◌≢◌, ◌<◌, ◌≤◌, ◌↔◌, ◌++◌, ◌∷◌, [], IsTrue, ◌*◌, max, vec_len, vec_capacity};
 ghost use Rattle.term_core.specs.declared.fault.Fault.TheVariants as Refusal;
 ghost use Rattle.term_core.specs.ShortRow.{row_items};
@@ -20,7 +20,7 @@ use term_order::is_key_above;
 /// The tag of a list.
 const LIST: u8 = 6;
 
-/// Why an atom wasn't made whose characters stand where so many bytes are left.
+/// Returns why an atom was not made, if its characters begin where `left` bytes are left.
 fn atom_stop(fault: Fault, left: usize) -> FileStop
     requires deep { fault ≢ Refusal.TooDeep }
     requires twice { fault ≢ Refusal.DuplicateKey }
@@ -33,7 +33,7 @@ fn atom_stop(fault: Fault, left: usize) -> FileStop
     }
 }
 
-/// The text of an atom.
+/// Reads the text of an atom, after its tag. Stops if it is not UTF-8.
 fn read_text(bytes: &[u8]) -> Result<(&str, &[u8]), FileStop>
     ensures { Reads utf8_format (Blames a_text_size bytes.now) (λ r. (r.0.now, r.1.now)) bytes.now
         result }
@@ -44,7 +44,7 @@ fn read_text(bytes: &[u8]) -> Result<(&str, &[u8]), FileStop>
     Ok((text, rest))
 }
 
-/// The bytes of a binary.
+/// Reads the bytes of a binary, after its tag. Stops if there are too many.
 fn read_binary_bytes(bytes: &[u8]) -> Result<(&[u8], &[u8]), FileStop>
     ensures { Reads binary_format (Blames a_binary_size bytes.now) (λ r. (r.0.now, r.1.now))
         bytes.now result }
@@ -58,7 +58,7 @@ fn read_binary_bytes(bytes: &[u8]) -> Result<(&[u8], &[u8]), FileStop>
     Ok((content, rest))
 }
 
-/// How many elements a list has.
+/// Reads the number of elements of a list. Stops if it is 0 or too large.
 fn read_length(bytes: &[u8]) -> Result<(u32, &[u8]), FileStop>
     ensures { Reads length_format (Blames a_list_length bytes.now) (λ r. (r.0, r.1.now)) bytes.now
         result }
@@ -73,7 +73,7 @@ fn read_length(bytes: &[u8]) -> Result<(u32, &[u8]), FileStop>
     Ok((count, rest))
 }
 
-/// An integer, behind its tag.
+/// Reads an integer. `rest` is what follows its tag.
 fn read_integer<'a, A: Allocator>(
     bytes: &[u8],
     rest: &'a [u8],
@@ -88,7 +88,7 @@ fn read_integer<'a, A: Allocator>(
     Ok((Term::int(value), behind))
 }
 
-/// An atom, behind its tag.
+/// Reads an atom. `rest` is what follows its tag.
 fn read_atom<'a, A: Allocator + Copy>(
     alloc: A,
     bytes: &[u8],
@@ -103,12 +103,12 @@ fn read_atom<'a, A: Allocator + Copy>(
     let (text, behind) = read_text(rest)?;
     let left = rest.len() - 2;
     let atom = atom_of_text(alloc, text).map_err(|fault| atom_stop(fault, left))?;
-    // Asked for the proof: a term is within its limits.
+    // The proof needs this read: a term is within its limits.
     let _depth = atom.depth();
     Ok((atom, behind))
 }
 
-/// A binary, behind its tag.
+/// Reads a binary. `rest` is what follows its tag.
 fn read_binary<'a, A: Allocator + Copy>(
     alloc: A,
     bytes: &[u8],
@@ -121,14 +121,13 @@ fn read_binary<'a, A: Allocator + Copy>(
         bytes.now result }
 {
     let (content, behind) = read_binary_bytes(rest)?;
-    let content = Vec::from_slice(alloc, content)?;
-    let binary = Term::binary(alloc, content).map_err(|refused| refused.fault.alloc_error())?;
-    // Asked for the proof: a term is within its limits.
+    let binary = Term::binary(alloc, content).map_err(|fault| fault.alloc_error())?;
+    // The proof needs this read: a term is within its limits.
     let _depth = binary.depth();
     Ok((binary, behind))
 }
 
-/// Whether these bytes begin with the tag of a list.
+/// Returns whether these bytes begin with the tag of a list.
 fn begins_list(bytes: &[u8]) -> bool
     ensures { IsTrue result ↔ BeginsWith (6 ∷ []) bytes.now }
 {
@@ -138,7 +137,7 @@ fn begins_list(bytes: &[u8]) -> bool
     }
 }
 
-/// A term at most so many levels deep. The recursion goes no deeper than that, whatever the file.
+/// Reads a term of at most `room` levels. The recursion is no deeper than that, whatever the file.
 #[cycle(constant)]
 pub fn read_constant<A: Allocator + Copy>(
     alloc: A,
@@ -164,20 +163,20 @@ pub fn read_constant<A: Allocator + Copy>(
     }
 }
 
-/// The most terms that a row has places for at first.
+/// The largest number of terms for which a row has places at first.
 const FIRST_TERMS: usize = 16;
-/// The most pairs that a row has places for at first.
+/// The largest number of pairs for which a row has places at first.
 const FIRST_PAIRS: usize = 8;
 
-/// How many places a row of so many items begins with: those that it needs, and at most so many, since a count is not
-/// believed before its items are there.
+/// Returns the number of places with which a row of `count` items begins: the number that it needs, but at most `most`.
+/// A count is not trusted before its items were read.
 fn first_places(count: u32, most: usize) -> usize
     ensures { result ≤ most }
 {
     (count as usize).min(most)
 }
 
-/// Makes room in a row that is full and of which so many items are left: for these, but for no more than are there.
+/// Makes room in a full row that expects `left` more items: for these, but at most for as many as it has.
 fn make_room<T, A: Allocator>(row: &mut Vec<T, A>, left: u32) -> Result<(), AllocError>
     ensures same { row.new.items ≡ row.old.items }
     ensures room { vec_capacity row.new ≤ max (vec_capacity row.old) (2 * vec_len row.old) }
@@ -188,7 +187,7 @@ fn make_room<T, A: Allocator>(row: &mut Vec<T, A>, left: u32) -> Result<(), Allo
     Ok(())
 }
 
-/// So many terms, one after the other.
+/// Reads `count` terms, one after the other.
 #[cycle(constant)]
 pub(crate) fn read_elements<A: Allocator + Copy>(
     alloc: A,
@@ -210,7 +209,7 @@ pub(crate) fn read_elements<A: Allocator + Copy>(
     Ok((elements, rest))
 }
 
-/// One to four terms, one after the other: without a row of their own.
+/// Reads one to four terms, one after the other, without allocating a row.
 #[cycle(constant)]
 fn read_short_row<A: Allocator + Copy>(
     alloc: A,
@@ -234,7 +233,7 @@ fn read_short_row<A: Allocator + Copy>(
     Ok((row, rest))
 }
 
-/// The tuple of one to four elements, behind its tag and its count.
+/// Reads a tuple of one to four elements. `rest` is what follows its tag, `behind` what follows its count.
 #[cycle(constant)]
 fn read_short_tuple<'a, A: Allocator + Copy>(
     alloc: A,
@@ -261,7 +260,7 @@ fn read_short_tuple<'a, A: Allocator + Copy>(
     Ok((tuple, behind))
 }
 
-/// A tuple, behind its tag.
+/// Reads a tuple. `rest` is what follows its tag.
 #[cycle(constant)]
 fn read_tuple<'a, A: Allocator + Copy>(
     alloc: A,
@@ -283,7 +282,7 @@ fn read_tuple<'a, A: Allocator + Copy>(
     Ok((tuple, behind))
 }
 
-/// A pair whose key stands above those before it.
+/// Reads a pair. Stops if its key is not above those before it.
 #[cycle(constant)]
 fn read_pair<'a, A: Allocator + Copy>(
     alloc: A,
@@ -304,7 +303,7 @@ fn read_pair<'a, A: Allocator + Copy>(
     Ok(((key, value), rest))
 }
 
-/// So many pairs, whose keys rise.
+/// Reads `count` pairs, whose keys have to be in ascending order.
 #[cycle(constant)]
 fn read_pairs<A: Allocator + Copy>(
     alloc: A,
@@ -326,7 +325,7 @@ fn read_pairs<A: Allocator + Copy>(
     Ok((pairs, rest))
 }
 
-/// The map of one pair, behind its tag and its count: without a row.
+/// Reads a map of one pair without allocating a row. `rest` is what follows its tag, `behind` what follows its count.
 #[cycle(constant)]
 fn read_map_of_one<'a, A: Allocator + Copy>(
     alloc: A,
@@ -347,7 +346,7 @@ fn read_map_of_one<'a, A: Allocator + Copy>(
     Ok((map, behind))
 }
 
-/// A map, behind its tag.
+/// Reads a map. `rest` is what follows its tag.
 #[cycle(constant)]
 fn read_map<'a, A: Allocator + Copy>(
     alloc: A,
@@ -369,7 +368,7 @@ fn read_map<'a, A: Allocator + Copy>(
     Ok((map, behind))
 }
 
-/// A list, behind its tag.
+/// Reads a list. `rest` is what follows its tag.
 #[cycle(constant)]
 fn read_list<'a, A: Allocator + Copy>(
     alloc: A,

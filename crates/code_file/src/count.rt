@@ -1,4 +1,4 @@
-//! Numbers that have a limit of code.
+//! Reading numbers that code limits.
 ghost use Rattle.code_writer.specs.Formats.{slot_count_format, body_count_format, argument_count_format};
 ghost use Rattle.code_file.specs.Due.Item.{a_slot_count, a_body_count, a_routine};
 ghost use Rattle.code_file.specs.Reads.{Reads, Blames};
@@ -7,7 +7,7 @@ use crate::number::read_u16;
 use crate::stop::{FileCause, FileStop};
 use mcode::{MAX_ARGUMENTS, MAX_ROUTINES, MAX_SLOTS};
 
-/// How many slots a body has.
+/// Reads the number of slots of a body. Stops if it is above `MAX_SLOTS`.
 pub(crate) fn read_slot_count(bytes: &[u8]) -> Result<(u16, &[u8]), FileStop>
     ensures { Reads slot_count_format (Blames a_slot_count bytes.now) (λ r. (r.0, r.1.now)) bytes.now
         result }
@@ -19,7 +19,7 @@ pub(crate) fn read_slot_count(bytes: &[u8]) -> Result<(u16, &[u8]), FileStop>
     Ok((count, rest))
 }
 
-/// How many bodies code with routines has.
+/// Reads the number of bodies of code with routines. Stops if it is below 2 or above `MAX_ROUTINES + 1`.
 pub(crate) fn read_body_count(bytes: &[u8]) -> Result<(u16, &[u8]), FileStop>
     ensures { Reads body_count_format (Blames a_body_count bytes.now) (λ r. (r.0, r.1.now)) bytes.now
         result }
@@ -34,7 +34,7 @@ pub(crate) fn read_body_count(bytes: &[u8]) -> Result<(u16, &[u8]), FileStop>
     Ok((count, rest))
 }
 
-/// How many arguments a routine has.
+/// Reads the number of arguments of a routine. Stops if it is above `MAX_ARGUMENTS`.
 pub(crate) fn read_argument_count(bytes: &[u8]) -> Result<(u16, &[u8]), FileStop>
     ensures { Reads argument_count_format (Blames a_routine bytes.now) (λ r. (r.0, r.1.now)) bytes.now
         result }

@@ -5,29 +5,29 @@ use thiserror::Error;
 /// Why a code file can't be read. Places are bytes of the file, counted from 0.
 #[derive(Clone, Copy, Debug, PartialEq, Eq, Error)]
 pub enum FileFault {
-    /// No memory was given.
+    /// An allocation failed.
     #[error("out of memory")]
     Memory,
-    /// The first bytes aren't those of a code file.
+    /// The file does not begin with the magic of code files.
     #[error("no code file")]
     BadMagic,
     /// The file is of another version of the format.
     #[error("a code file of another version")]
     BadVersion,
-    /// The file ends too early, at its length.
+    /// The file ends too early. The byte is its length.
     #[error("at byte {0}: the code file ends too early")]
     Truncated(usize),
-    /// A byte names no tag, opcode, function or kind.
+    /// A byte is not the number of a tag, opcode, function or kind.
     #[error("at byte {0}: the byte names nothing")]
     BadOpcode(usize),
-    /// A key, frame, place or slot isn't above the one before it, a list has no elements or a list for its tail, an atom
-    /// isn't UTF-8, or code of the version with routines has none. The byte is the item's first.
+    /// A key, frame, place or slot is not above the one before it, or a list has no elements or a list as its tail. Or
+    /// an atom is not UTF-8, or code of the version with routines has none. The byte is the item's first.
     #[error("at byte {0}: not as code files are written")]
     NotCanonical(usize),
-    /// Bytes stand behind the code, of which this is the first.
+    /// Bytes follow the code; this is the first of them.
     #[error("at byte {0}: the code file goes on behind its end")]
     Trailing(usize),
-    /// There are too many slots, bodies or arguments, or a term is past a limit of terms.
+    /// There are too many slots, bodies or arguments, or a term exceeds a limit of terms.
     #[error("past a limit")]
     Limit,
 }
@@ -36,7 +36,7 @@ impl FileFault {
     ghost use Rattle.std.specs.Prelude.{◌≡◌};
     ghost use Rattle.code_file.specs.FaultNumbers.{number_of, place_of};
 
-    /// The number that the fault has in what programs print.
+    /// Returns the number, 1 or 30 to 36, that programs print for the fault.
     pub const fn number(self) -> u8
         ensures { result ≡ number_of self }
     {
@@ -52,7 +52,7 @@ impl FileFault {
         }
     }
 
-    /// The byte of the file where the fault is met, counted from 0, where the fault names one.
+    /// Returns the byte of the file where the fault is, counted from 0, or `None` if the fault names none.
     pub const fn at(self) -> Option<usize>
         ensures { result ≡ place_of self }
     {

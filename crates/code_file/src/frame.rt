@@ -1,4 +1,4 @@
-//! Frames at the front of a file's rest.
+//! Reading frames.
 ghost use Rattle.std.specs.Prelude.{◌≡◌, ◌<◌, ◌↔◌, ◌++◌, ◌∷◌, [], IsTrue, IfSome, IfOk};
 ghost use Rattle.mcode.specs.Program.{Rise, place_number};
 ghost use Rattle.code_writer.specs.Format.{rows, such};
@@ -13,7 +13,7 @@ use crate::stop::{FileCause, FileStop};
 use mcode::{Frame, Kind, Places, Slots};
 use std::alloc::Allocator;
 
-/// A kind that says something.
+/// Reads a kind other than `Kind::Any`.
 pub(crate) fn read_kind(bytes: &[u8]) -> Result<(Kind, &[u8]), FileStop>
     ensures { Reads kind_format (Blames a_kind bytes.now) (λ r. (r.0, r.1.now)) bytes.now result }
 {
@@ -31,7 +31,7 @@ pub(crate) fn read_kind(bytes: &[u8]) -> Result<(Kind, &[u8]), FileStop>
     }
 }
 
-/// Whether a number is above the last one, where there is one.
+/// Returns whether a number is above the last one, if there is one.
 pub(crate) fn is_above(last: Option<u16>, number: u16) -> bool
     ensures { IsTrue result ↔ IfSome last (λ l. l < number) }
 {
@@ -41,7 +41,7 @@ pub(crate) fn is_above(last: Option<u16>, number: u16) -> bool
     }
 }
 
-/// The number of the last of these places.
+/// Returns the number of the last of these places, or `None` if there are none.
 fn last_place(places: &[(u16, Kind)]) -> Option<u16>
     ensures { LastIs place_number places.now result }
 {
@@ -51,7 +51,7 @@ fn last_place(places: &[(u16, Kind)]) -> Option<u16>
     }
 }
 
-/// The last of these slots.
+/// Returns the last of these slots, or `None` if there are none.
 fn last_slot(slots: &[u8]) -> Option<u16>
     ensures { LastIs (λ slot. slot) slots.now result }
 {
@@ -61,7 +61,7 @@ fn last_slot(slots: &[u8]) -> Option<u16>
     }
 }
 
-/// A place above those that stand before it.
+/// Reads a place with its kind. Stops if it is not above those before it.
 fn read_place<'a>(
     before: &[(u16, Kind)],
     bytes: &'a [u8],
@@ -79,7 +79,7 @@ fn read_place<'a>(
     Ok(((number, kind), rest))
 }
 
-/// So many places, which rise.
+/// Reads `count` places, which have to be in ascending order.
 fn read_place_rows<A: Allocator>(
     alloc: A,
     count: u16,
@@ -98,7 +98,7 @@ fn read_place_rows<A: Allocator>(
     Ok((places, rest))
 }
 
-/// The places of a frame.
+/// Reads the number of places of a frame and then these.
 fn read_places<A: Allocator>(alloc: A, bytes: &[u8]) -> Result<(Places<A>, &[u8]), FileStop>
     ensures { Reads places_format (Blames (a_count places) bytes.now) (λ r. (r.0, r.1.now)) bytes.now result }
 {
@@ -107,7 +107,7 @@ fn read_places<A: Allocator>(alloc: A, bytes: &[u8]) -> Result<(Places<A>, &[u8]
     Ok((Places::new(places), rest))
 }
 
-/// A slot above those that stand before it.
+/// Reads a slot. Stops if it is not above those before it.
 fn read_slot<'a>(before: &[u8], bytes: &'a [u8]) -> Result<(u8, &'a [u8]), FileStop>
     requires { Rise (λ slot. slot) before.now }
     ensures { Reads (such u8_format (λ v. Rise (λ slot. slot) (before.now ++ v ∷ [])))
@@ -120,7 +120,7 @@ fn read_slot<'a>(before: &[u8], bytes: &'a [u8]) -> Result<(u8, &'a [u8]), FileS
     Ok((slot, rest))
 }
 
-/// So many slots, which rise.
+/// Reads `count` slots, which have to be in ascending order.
 fn read_slot_rows<A: Allocator>(
     alloc: A,
     count: u16,
@@ -139,7 +139,7 @@ fn read_slot_rows<A: Allocator>(
     Ok((slots, rest))
 }
 
-/// The slots of a frame.
+/// Reads the number of slots of a frame and then these.
 fn read_slots<A: Allocator>(alloc: A, bytes: &[u8]) -> Result<(Slots<A>, &[u8]), FileStop>
     ensures { Reads slots_format (Blames (a_count slots) bytes.now) (λ r. (r.0, r.1.now)) bytes.now result }
 {
@@ -148,7 +148,7 @@ fn read_slots<A: Allocator>(alloc: A, bytes: &[u8]) -> Result<(Slots<A>, &[u8]),
     Ok((Slots::new(slots), rest))
 }
 
-/// The frame at an instruction, behind the instruction's number.
+/// Reads the frame at an instruction, after the instruction's number.
 pub(crate) fn read_frame_at<A: Allocator + Copy>(
     alloc: A,
     pc: u16,

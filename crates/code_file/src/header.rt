@@ -1,4 +1,4 @@
-//! The front of a code file: the magic and the version.
+//! The beginning of a code file: the magic and the version.
 ghost use Rattle.std.specs.Prelude.{◌≡◌, ◌≢◌, ◌++◌, IfOk, IfErr};
 ghost use Rattle.code_writer.specs.File.{magic};
 ghost use Rattle.code_file.specs.Faults.{IsNoFile, IsHeader, fault_of};
@@ -8,9 +8,9 @@ use crate::fault::FileFault;
 use crate::number::read_u16;
 use crate::stop::{FileCause, FileStop};
 
-/// EMSC, with which each code file begins.
+/// The magic, EMSC in ASCII, with which each code file begins.
 const MAGIC: [u8; 4] = [69, 77, 83, 67];
-/// Why reading a file of so many bytes stopped.
+/// Returns the fault for a stop in a file of this size.
 pub(crate) fn file_fault(stop: FileStop, size: usize) -> FileFault
     ensures { result ≡ fault_of stop size }
 {
@@ -26,7 +26,7 @@ pub(crate) fn file_fault(stop: FileStop, size: usize) -> FileFault
     }
 }
 
-/// What follows the magic.
+/// Returns what follows the magic.
 fn read_magic(bytes: &[u8]) -> Result<&[u8], FileFault>
     ensures ok { IfOk result (λ rest. bytes.now ≡ magic ++ rest.now) }
     ensures refused { IfErr result (λ fault. IsNoFile bytes.now fault) }
@@ -41,7 +41,7 @@ fn read_magic(bytes: &[u8]) -> Result<&[u8], FileFault>
     Ok(rest)
 }
 
-/// The version, and what follows it.
+/// Returns the version and what follows it.
 pub(crate) fn read_version(bytes: &[u8]) -> Result<(u16, &[u8]), FileFault>
     ensures ok { IfOk result (λ r. IsHeader bytes.now r.0 r.1.now) }
     ensures refused { IfErr result (λ fault. fault ≢ OutOfMemory → IsNoFile bytes.now fault) }

@@ -1,4 +1,4 @@
-//! Instructions at the front of a file's rest.
+//! Reading instructions.
 ghost use Rattle.std.specs.Prelude.{◌≡◌, ◌≤◌, ◌↔◌, Some};
 ghost use Rattle.code_writer.specs.declared.opcode.Opcode.{Opcode as AnyOpcode};
 ghost use Rattle.code_writer.specs.declared.opcode.Opcode.TheVariants as Opcode;
@@ -14,7 +14,7 @@ use code_writer::Opcode;
 use mcode::Instr;
 use prims_table::{Arithmetic, Function};
 
-/// The opcode of a number, up to the greatest that code of a version has.
+/// Returns the opcode with a number, or `None` if there is none or the number is above `most`.
 fn opcode_of(most: u8, number: u8) -> Option<Opcode>
     ensures { (o : AnyOpcode) → (result ≡ Some o) ↔ ((opcode_number o ≡ number) × (opcode_number o ≤ most)) }
 {
@@ -24,7 +24,7 @@ fn opcode_of(most: u8, number: u8) -> Option<Opcode>
     Opcode::numbered(number)
 }
 
-/// An opcode.
+/// Reads an opcode with a number up to `most`.
 fn read_opcode(most: u8, bytes: &[u8]) -> Result<(Opcode, &[u8]), FileStop>
     ensures { Reads (opcode_format most) (Blames (an_instruction most) bytes.now) (λ r. (r.0, r.1.now)) bytes.now result }
 {
@@ -35,7 +35,7 @@ fn read_opcode(most: u8, bytes: &[u8]) -> Result<(Opcode, &[u8]), FileStop>
     }
 }
 
-/// Two numbers.
+/// Reads two numbers of two bytes each.
 fn read_two(bytes: &[u8]) -> Result<((u16, u16), &[u8]), FileStop>
     ensures { Reads (both u16_format u16_format) (IsCut 4 bytes.now) (λ r. (r.0, r.1.now)) bytes.now
         result }
@@ -45,7 +45,7 @@ fn read_two(bytes: &[u8]) -> Result<((u16, u16), &[u8]), FileStop>
     Ok(((first, second), rest))
 }
 
-/// A function of the table of calls.
+/// Reads a function other than those of two integers.
 fn read_function(bytes: &[u8]) -> Result<(Function, &[u8]), FileStop>
     ensures { Reads function_format (Blames a_function bytes.now) (λ r. (r.0, r.1.now)) bytes.now
         result }
@@ -57,7 +57,7 @@ fn read_function(bytes: &[u8]) -> Result<(Function, &[u8]), FileStop>
     }
 }
 
-/// A function of two integers.
+/// Reads a function of two integers.
 fn read_arithmetic(bytes: &[u8]) -> Result<(Arithmetic, &[u8]), FileStop>
     ensures { Reads arithmetic_format (Blames an_arithmetic bytes.now) (λ r. (r.0, r.1.now))
         bytes.now result }
@@ -69,7 +69,7 @@ fn read_arithmetic(bytes: &[u8]) -> Result<(Arithmetic, &[u8]), FileStop>
     }
 }
 
-/// A call, behind its opcode.
+/// Reads the arguments of a call. `rest` is what follows its opcode.
 fn read_call<'a>(most: u8, bytes: &[u8], rest: &'a [u8]) -> Result<(Instr, &'a [u8]), FileStop>
     requires { Begins (opcode_format most) bytes.now Opcode.Call rest.now }
     ensures { Reads (instruction_format most) (Blames (an_instruction most) bytes.now) (λ r. (r.0, r.1.now)) bytes.now result }
@@ -84,7 +84,7 @@ fn read_call<'a>(most: u8, bytes: &[u8], rest: &'a [u8]) -> Result<(Instr, &'a [
     Ok((instr, rest))
 }
 
-/// A function of two integers with where to go otherwise, behind its opcode.
+/// Reads a function of two integers and the target of the jump. `rest` is what follows the opcode.
 fn read_arith<'a>(most: u8, bytes: &[u8], rest: &'a [u8]) -> Result<(Instr, &'a [u8]), FileStop>
     requires { Begins (opcode_format most) bytes.now Opcode.Arith rest.now }
     ensures { Reads (instruction_format most) (Blames (an_instruction most) bytes.now) (λ r. (r.0, r.1.now)) bytes.now result }
@@ -100,7 +100,7 @@ fn read_arith<'a>(most: u8, bytes: &[u8], rest: &'a [u8]) -> Result<(Instr, &'a 
     ))
 }
 
-/// An instruction, up to the greatest opcode that code of a version has.
+/// Reads an instruction with an opcode up to `most`.
 pub(crate) fn read_instr(most: u8, bytes: &[u8]) -> Result<(Instr, &[u8]), FileStop>
     ensures { Reads (instruction_format most) (Blames (an_instruction most) bytes.now) (λ r. (r.0, r.1.now)) bytes.now result }
 {

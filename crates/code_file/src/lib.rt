@@ -1,13 +1,13 @@
-//! Code files: code as bytes, for files that strangers made as well.
+//! Code files: code as bytes. Files may come from untrusted sources.
 //!
-//! The contract: `decode` answers code that a file spells (`Spells` of `code_writer`), and refuses only what is no code
-//! file, memory aside, by a fault that says what is wrong and where (`IsNoFile`, in `specs/Faults.antt`): what stands
-//! before the place is the beginning of a file, an item is due there (`specs/Due.antt`), and what stands there is wrong
-//! for that item (`specs/Causes.antt`). `encode` writes a file, and the laws `one_code` and `read_back` say that
-//! reading and writing are inverse.
+//! The contract: `decode` returns the code that a file spells (`Spells` of `code_writer`). It rejects only what is not
+//! a code file, unless memory runs out. The fault says what is wrong and where (`IsNoFile`, in `specs/Faults.antt`):
+//! the bytes before that place are the beginning of a file, an item is due there (`specs/Due.antt`), and the bytes
+//! there are wrong for that item (`specs/Causes.antt`). `encode` writes a file, and the laws `one_code` and `read_back`
+//! say that reading and writing are inverse.
 //!
-//! Each reader of a part answers the value at the front of some bytes and the rest, or why no value is at the front
-//! (`FileStop`): in any file in which the part is due before these bytes, the cause stands at the place
+//! Each reader of a part returns the value at the beginning of some bytes and the rest, or why they do not begin with a
+//! value (`FileStop`). In any file in which the part is due before these bytes, the cause is at the place
 //! (`specs/Reads.antt`). Places are counted in the bytes that are left.
 //!
 //! - `stop`: why a reader stops; `number`: numbers and rows of bytes; `constant`: terms, at most 255 levels deep;

@@ -1,11 +1,11 @@
-//! Numbers and rows of bytes at the front of a file's rest.
+//! Reading numbers and rows of bytes.
 ghost use Rattle.code_writer.specs.Formats.{u8_format, u16_format, u32_format, i64_format, bytes_format};
 ghost use Rattle.code_file.specs.Reads.{Reads, IsCut};
 
 use crate::stop::{FileCause, FileStop};
 use byteorder::{BigEndian, ByteOrder};
 
-/// So many bytes, and what follows them.
+/// Returns the first `count` bytes and what follows them. Stops if there are fewer.
 pub(crate) fn take(bytes: &[u8], count: usize) -> Result<(&[u8], &[u8]), FileStop>
     ensures { Reads (bytes_format count) (IsCut count bytes.now) (λ r. (r.0.now, r.1.now)) bytes.now
         result }
@@ -16,7 +16,7 @@ pub(crate) fn take(bytes: &[u8], count: usize) -> Result<(&[u8], &[u8]), FileSto
     Ok(bytes.split_at(count))
 }
 
-/// A number of one byte.
+/// Reads a number of one byte.
 pub fn read_u8(bytes: &[u8]) -> Result<(u8, &[u8]), FileStop>
     ensures { Reads u8_format (IsCut 1 bytes.now) (λ r. (r.0, r.1.now)) bytes.now result }
 {
@@ -26,7 +26,7 @@ pub fn read_u8(bytes: &[u8]) -> Result<(u8, &[u8]), FileStop>
     }
 }
 
-/// A number of two bytes.
+/// Reads a number of two bytes, big-endian.
 pub fn read_u16(bytes: &[u8]) -> Result<(u16, &[u8]), FileStop>
     ensures { Reads u16_format (IsCut 2 bytes.now) (λ r. (r.0, r.1.now)) bytes.now result }
 {
@@ -37,7 +37,7 @@ pub fn read_u16(bytes: &[u8]) -> Result<(u16, &[u8]), FileStop>
     Ok((BigEndian::read_u16(front), rest))
 }
 
-/// A number of four bytes.
+/// Reads a number of four bytes, big-endian.
 pub(crate) fn read_u32(bytes: &[u8]) -> Result<(u32, &[u8]), FileStop>
     ensures { Reads u32_format (IsCut 4 bytes.now) (λ r. (r.0, r.1.now)) bytes.now result }
 {
@@ -48,7 +48,7 @@ pub(crate) fn read_u32(bytes: &[u8]) -> Result<(u32, &[u8]), FileStop>
     Ok((BigEndian::read_u32(front), rest))
 }
 
-/// A whole number of eight bytes.
+/// Reads an integer of eight bytes, big-endian in two's complement.
 pub(crate) fn read_i64(bytes: &[u8]) -> Result<(i64, &[u8]), FileStop>
     ensures { Reads i64_format (IsCut 8 bytes.now) (λ r. (r.0, r.1.now)) bytes.now result }
 {

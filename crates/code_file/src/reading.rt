@@ -1,4 +1,4 @@
-//! Whole code files, read.
+//! Reading whole code files.
 ghost use Rattle.std.specs.Prelude.{◌≡◌, ◌≢◌, IfOk, IfErr};
 ghost use Rattle.mcode.specs.Program.{alone};
 ghost use Rattle.code_writer.specs.Formats.{plain_format, plain_parts, code_format, code_parts};
@@ -20,10 +20,10 @@ use std::alloc::Allocator;
 
 /// The version of the format for code without routines.
 const PLAIN_VERSION: u16 = 1;
-/// The version for code with routines.
+/// The version of the format for code with routines.
 const ROUTINE_VERSION: u16 = 2;
 
-/// Code without routines, behind the version.
+/// Reads code without routines, after the version.
 fn read_plain<A: Allocator + Copy>(alloc: A, bytes: &[u8]) -> Result<(Code<A>, &[u8]), FileStop>
     ensures code { Reads plain_format (Blames a_plain_code bytes.now)
         (λ r. (plain_parts r.0, r.1.now)) bytes.now result }
@@ -36,7 +36,7 @@ fn read_plain<A: Allocator + Copy>(alloc: A, bytes: &[u8]) -> Result<(Code<A>, &
     Ok((builder.finish(), rest))
 }
 
-/// Code with routines, behind the version.
+/// Reads code with routines, after the version.
 fn read_code<A: Allocator + Copy>(alloc: A, bytes: &[u8]) -> Result<(Code<A>, &[u8]), FileStop>
     ensures { Reads code_format (Blames a_code bytes.now) (λ r. (code_parts r.0, r.1.now))
         bytes.now result }
@@ -48,7 +48,7 @@ fn read_code<A: Allocator + Copy>(alloc: A, bytes: &[u8]) -> Result<(Code<A>, &[
     Ok((builder.finish(), rest))
 }
 
-/// The code that was read from a file, where nothing follows it.
+/// Returns the code that was read from a file. Fails with `Trailing` if bytes follow it.
 fn whole<A: Allocator>(code: Code<A>, bytes: &[u8], rest: &[u8]) -> Result<Code<A>, FileFault>
     requires { IsRead bytes.now code rest.now }
     ensures ok { IfOk result (λ c. Spells bytes.now c) }
@@ -60,7 +60,7 @@ fn whole<A: Allocator>(code: Code<A>, bytes: &[u8], rest: &[u8]) -> Result<Code<
     Err(FileFault::Trailing(bytes.len().saturating_sub(rest.len())))
 }
 
-/// The code of a file without routines, of which this is what follows the version.
+/// Reads a file without routines. `rest` is what follows the version.
 fn decode_plain<A: Allocator + Copy>(
     alloc: A,
     bytes: &[u8],
@@ -72,7 +72,7 @@ fn decode_plain<A: Allocator + Copy>(
 {
     match read_plain(alloc, rest) {
         Ok((code, more)) => {
-            // Asked for the proof: code is within its limits.
+            // The proof needs this read: code is within its limits.
             let _routines = code.routines();
             whole(code, bytes, more)
         }
@@ -80,7 +80,7 @@ fn decode_plain<A: Allocator + Copy>(
     }
 }
 
-/// The code of a file with routines, of which this is what follows the version.
+/// Reads a file with routines. `rest` is what follows the version.
 fn decode_code<A: Allocator + Copy>(
     alloc: A,
     bytes: &[u8],
@@ -92,7 +92,7 @@ fn decode_code<A: Allocator + Copy>(
 {
     match read_code(alloc, rest) {
         Ok((code, more)) => {
-            // Asked for the proof: code is within its limits.
+            // The proof needs this read: code is within its limits.
             let _routines = code.routines();
             whole(code, bytes, more)
         }
@@ -100,9 +100,9 @@ fn decode_code<A: Allocator + Copy>(
     }
 }
 
-/// The code of a file: bytes from anywhere, of which nothing has to be known. A count in a file is never believed: what
-/// is kept grows by the items that are there. Refused is what spells no code, and by `FileFault::Memory` whatever there
-/// was no memory for.
+/// Reads the code of a file. The bytes may come from anywhere; nothing about them is assumed. A count in a file is not
+/// trusted: memory grows with the items that were read. Fails if the bytes are not the file of any code, or with
+/// `FileFault::Memory` if an allocation fails.
 pub fn decode<A: Allocator + Copy>(alloc: A, bytes: &[u8]) -> Result<Code<A>, FileFault>
     ensures ok { IfOk result (λ code. Spells bytes.now code) }
     ensures refused { IfErr result (λ fault. fault ≢ OutOfMemory → IsNoFile bytes.now fault) }

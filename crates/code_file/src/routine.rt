@@ -1,4 +1,4 @@
-//! Routines, read into a builder.
+//! Reading routines into a builder.
 ghost use Rattle.std.specs.Prelude.{◌≡◌, ◌<◌, ◌≤◌, length, IfOk, IfErr, OnOk};
 ghost use Rattle.mcode.specs.Building.{with_routine};
 ghost use Rattle.mcode.specs.Program.{most_arguments, most_routines, most_slots};
@@ -18,10 +18,10 @@ use code_writer::MAX_OPCODE;
 use mcode::{Builder, Kind};
 use std::alloc::{AllocError, Allocator};
 
-/// The byte of a kind that may be any.
+/// The byte of `Kind::Any` as the kind of an argument or a result.
 const ANY: u8 = 0;
 
-/// The kind of an argument or a result.
+/// Reads the kind of an argument or a result.
 fn read_any_kind(bytes: &[u8]) -> Result<(Kind, &[u8]), FileStop>
     ensures { Reads any_kind_format (Blames a_signature_kind bytes.now) (λ r. (r.0, r.1.now))
         bytes.now result }
@@ -33,7 +33,7 @@ fn read_any_kind(bytes: &[u8]) -> Result<(Kind, &[u8]), FileStop>
     read_kind(bytes)
 }
 
-/// The kinds of so many arguments.
+/// Reads the kinds of `count` arguments.
 fn read_arguments<A: Allocator>(
     alloc: A,
     count: u16,
@@ -52,7 +52,7 @@ fn read_arguments<A: Allocator>(
     Ok((kinds, rest))
 }
 
-/// The kinds of a routine's arguments and of its result.
+/// Reads the kinds of a routine's arguments and of its result.
 fn read_signature<A: Allocator>(
     alloc: A,
     bytes: &[u8],
@@ -66,7 +66,7 @@ fn read_signature<A: Allocator>(
     Ok(((arguments, gives), rest))
 }
 
-/// Begins a routine, where its counts are within their limits.
+/// Begins a routine in the builder. Its counts are within their limits.
 fn begin_routine<A: Allocator + Copy>(
     builder: &mut Builder<A>,
     arguments: Vec<Kind, A>,
@@ -84,7 +84,7 @@ fn begin_routine<A: Allocator + Copy>(
     Ok(())
 }
 
-/// A routine.
+/// Reads a routine into the builder.
 fn read_routine<'a, A: Allocator + Copy>(
     alloc: A,
     builder: &mut Builder<A>,
@@ -102,7 +102,7 @@ fn read_routine<'a, A: Allocator + Copy>(
     Ok(rest)
 }
 
-/// So many routines, behind a main body.
+/// Reads `count` routines into the builder, after the main body.
 pub(crate) fn read_routines<'a, A: Allocator + Copy>(
     alloc: A,
     builder: &mut Builder<A>,

@@ -9,20 +9,21 @@ use std::alloc::{AllocError, AllocFailed};
 pub enum FileCause {
     /// The file ends too early.
     Truncated,
-    /// A byte names no tag, opcode, function or kind.
+    /// A byte is not the number of a tag, opcode, function or kind.
     BadOpcode,
-    /// What stands there is not as code files are written.
+    /// What is there is not written as in code files.
     NotCanonical,
-    /// A term is past a limit of terms.
+    /// There are too many slots, bodies or arguments, or a term exceeds a limit of terms.
     Limit,
 }
 
-/// Why reading stops: for want of memory, or at a place that is counted in the bytes from there to the end.
+/// Why reading stops: memory ran out, or there is a fault. A fault's place is the number of bytes from there to the
+/// end.
 #[derive(Clone, Copy)]
 pub enum FileStop {
-    /// No memory was given.
+    /// An allocation failed.
     Memory,
-    /// Something is wrong where so many bytes are left.
+    /// Something is wrong at the place where this number of bytes is left.
     At(FileCause, usize),
 }
 

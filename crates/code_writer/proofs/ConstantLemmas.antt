@@ -1,4 +1,4 @@
--- Terms by their tags: no spelling of one begins another, and what is refused behind a tag.
+-- Terms by their tags: no spelling of a term begins another one, and what is rejected after a tag.
 use Rattle.std.specs.Prelude.{FitsSigned}
 use Rattle.std.specs.Int.{w64}
 use Rattle.std.specs.Str.{encode_utf8_all, chars}
@@ -75,7 +75,7 @@ cells_spelled : (d : Datum) → cells_bytes d ≡ flat_map constant_bytes (cell_
 cells_spelled (cons head tail) = ap (λ (t : List ℕ). constant_bytes head ++ t) (cells_spelled tail) ∙ sym (append_assoc (constant_bytes head) (flat_map constant_bytes (cell_list tail)) (constant_bytes (end_of tail)))
 cells_spelled d = refl
 
--- the same from lists
+-- the bytes of elements are those of the list of them
 pub items_bytes-of : (ds : List Datum) → items_bytes (items_of ds) ≡ flat_map constant_bytes ds
 items_bytes-of [] = refl
 items_bytes-of (d ∷ ds) = ap (λ (t : List ℕ). constant_bytes d ++ t) (items_bytes-of ds)
@@ -107,7 +107,7 @@ list_bytes (d ∷ ds) t some no_cell =
     ap (λ n. 6 ∷ u32_bytes (suc n) ++ (constant_bytes d ++ cells_bytes (cells ds t))) (cell_count-cells ds t ∙ omega (arith, cell_count-ends t no_cell))
     ∙ ap (λ (x : List ℕ). 6 ∷ u32_bytes (suc (length ds)) ++ x) (ap (λ (x : List ℕ). constant_bytes d ++ x) (cells_bytes-of ds t no_cell) ∙ sym (append_assoc (constant_bytes d) (flat_map constant_bytes ds) (constant_bytes t)))
 
--- ---- and their limits
+-- ---- limits of terms made of lists
 
 abbrev FitsIn : ℕ → Datum → Type 0
 FitsIn room d = IsSound d × (depth d ≤ room)
@@ -254,7 +254,7 @@ opened room bytes b r d s is h =
       fits = node_fits room d h.fits.0 h.fits.1;
     }
 
--- ---- what stands behind each tag
+-- ---- what follows each tag
 
 pub integer_in : (r : List ℕ) (room : ℕ) (n : Node) (s : List ℕ) → Opened 1 r room n s → (z : ℤ) × (n ≡ of_integer z) × Begins i64_format r z s
 integer_in r room (of_integer z) s h = (z, refl, record { fits = h.fits; parts = h.rest_is })
@@ -358,7 +358,7 @@ no_cell-tail None h = tt
 no_cell-tail (Some (cons head tail)) h = absurd h
 no_cell-tail (Some d) h = tt
 
--- a term of such parts has few of them
+-- a term of these elements has few of them
 pub tuple_few : (ds : List Datum) (d : Datum) → tuple (items_of ds) ≡ d → IsTerm d → length ds ≤ tuple_limit
 tuple_few ds d is h = let whole : IsTerm (tuple (items_of ds)) = subst IsTerm (sym is) h in omega (arith, whole.sound.0, item_count-items_of ds)
 

@@ -58,7 +58,7 @@ routine_free = through_prefix_free routine_parts (λ x. record { arguments = x.0
 pub body_count_free : IsPrefixFree body_count_format
 body_count_free = such_prefix_free u16_format _ u16_free
 
--- the number of bodies, and the bodies behind it
+-- the number of bodies, and the bodies after it
 pub bodies_first : (bytes : List ℕ) (p : Body × List Routine) (s : List ℕ) → Begins bodies_format bytes p s → Begins body_count_format bytes (suc (length p.1)) ((body_bytes p.0 ++ flat_map routine_bytes p.1) ++ s)
 bodies_first bytes p s h = record { fits = h.fits.0; parts = h.parts ∙ append_assoc (u16_bytes (suc (length p.1))) (body_bytes p.0 ++ flat_map routine_bytes p.1) s }
 
@@ -79,7 +79,7 @@ bodies_free = record {
 pub code_free : IsPrefixFree code_format
 code_free = both_prefix_free constants_format bodies_format constants_free bodies_free
 
--- ---- slots that rise are few
+-- ---- ascending slots are few
 
 climbs : (vs : List ℕ) → Rise (λ slot. slot) vs → (k : ℕ) → k < length vs → k ≤ get_or vs k 0
 climbs vs up zero within = omega arith
@@ -134,7 +134,7 @@ instructions_fit : (most : ℕ) (is : List Instr) → AllByRecursion HoldsArgume
 instructions_fit most [] h k = tt
 instructions_fit most (i ∷ is) h k = ((h.0, k.0), instructions_fit most is h.1 k.1)
 
--- each instruction has a number
+-- each instruction has a number up to the largest
 known : (i : Instr) → IsUpTo most_opcode i
 known instr.Load = omega arith
 known i = omega arith
@@ -143,7 +143,7 @@ all_known : (is : List Instr) → AllByRecursion (IsUpTo most_opcode) is
 all_known [] = tt
 all_known (i ∷ is) = (known i, all_known is)
 
--- what a body has fits where its instructions do
+-- the parts of a body fit their format if its instructions do
 body_fits : (b : Body) → IsBody b → All HoldsArguments b.instructions → All HoldsFrame b.frames → (most : ℕ) → AllByRecursion (IsUpTo most) b.instructions → (both slot_count_format (parts_format most)).Fits (body_parts b)
 body_fits b h instructions frames most up = (
   (omega (arith, h.slots), h.slots),
@@ -183,7 +183,7 @@ code_fits bytes p t ts h some = (
   ),
 )
 
--- ---- files behind their magic
+-- ---- files after their magic
 
 abbrev pub drop_four : List ℕ → List ℕ
 drop_four (a ∷ b ∷ c ∷ d ∷ bs) = bs
@@ -216,7 +216,7 @@ behind_magic bytes p h =
     h.spelling ∙ magic_first p p.around.routines
     ∙ ap (λ (bs : List ℕ). magic ++ drop_four bs) (sym h.spelling)
 
--- the version that was read is that of the code: the file is its file behind that
+-- the version that was read is that of the code, and the rest is its file after the version
 pub record IsOfVersion (n : ℕ) (more : List ℕ) (p : Program) : Type 0 where
   pub plain : p.around.routines ≡ [] → (n ≡ version) × Begins plain_format more (plain_parts p) []
   pub others : (t : Routine) (ts : List Routine) → p.around.routines ≡ t ∷ ts → (n ≡ routine_version) × Begins code_format more (code_parts p) []
@@ -231,7 +231,7 @@ of_version bytes rest n more p is h s = record {
 
 -- ---- one code
 
--- whole code is seen from its main body
+-- whole code is viewed from its main body
 pub whole_is : (p : Program) → IsWhole p → p ≡ code_of p.constants (seen_body p) p.around.routines
 whole_is p h = λ i. record { slots = p.slots; constants = p.constants; instructions = p.instructions; frames = p.frames; around = record { number = h.number i; main = h.main i; routines = p.around.routines } }
 
@@ -268,7 +268,7 @@ read_back p program file constants instructions frames routines =
     let spells : Spells (file_bytes p) p = record { program = program; file = file; constants = constants; instructions = instructions; frames = frames; routines = routines; spelling = refl } in
     (spells, λ q s. one_code (file_bytes p) q p s spells)
 
--- what was written of the parts of code without routines is its file
+-- what was written for the parts of code without routines is its file
 pub plain_written : (p : Program) (bytes : List ℕ) (slots : ℕ) (ds : List Datum) (is : List Instr) (fs : List Frame) → slots ≡ p.slots → ds ≡ p.constants → is ≡ p.instructions → fs ≡ p.frames → p.around.routines ≡ []
     → bytes ≡ magic ++ (u16_bytes version ++ (u16_bytes slots ++ (constants_bytes ds ++ (instructions_bytes is ++ frames_bytes fs))))
     → bytes ≡ file_bytes p
@@ -277,7 +277,7 @@ plain_written p bytes slots ds is fs slots_are ds_are is_are fs_are none parts =
     ∙ (λ i. file_of (record { slots = slots_are i; constants = ds_are i; instructions = is_are i; frames = fs_are i; around = p.around }) [])
     ∙ ap (file_of p) (sym none)
 
--- the same of code with routines
+-- what was written for the parts of code with routines is its file
 pub code_written : (p : Program) (bytes : List ℕ) (slots : ℕ) (ds : List Datum) (is : List Instr) (fs : List Frame) (n : ℕ) (ts : List Routine) → slots ≡ p.slots → ds ≡ p.constants → is ≡ p.instructions → fs ≡ p.frames → n ≡ suc (length ts) → ts ≡ p.around.routines → 0 < length ts
     → bytes ≡ magic ++ (u16_bytes routine_version ++ (constants_bytes ds ++ (u16_bytes n ++ ((u16_bytes slots ++ (instructions_bytes is ++ frames_bytes fs)) ++ flat_map routine_bytes ts))))
     → bytes ≡ file_bytes p
@@ -288,12 +288,12 @@ code_written p bytes slots ds is fs n (t ∷ ts) slots_are ds_are is_are fs_are 
     ∙ (λ i. file_of (record { slots = slots_are i; constants = ds_are i; instructions = is_are i; frames = fs_are i; around = p.around }) (t ∷ ts))
     ∙ ap (file_of p) ts_are
 
--- a list that isn't empty
+-- a list that is not empty has a positive length
 pub some_left : {X : Type 0} (xs : List X) → (xs ≡ [] → ⊥) → 0 < length xs
 some_left [] some = absurd (some refl)
 some_left (x ∷ xs) some = omega arith
 
--- what is written of code is its file
+-- what is written for code is its file
 pub file_spells : (p : Program) (bytes : List ℕ) → IsWhole p → IsFileOf p bytes → HasFile p → Spells bytes p
 file_spells p bytes program file has = record {
   program = program;

@@ -1,9 +1,9 @@
--- Spellings that no other begins: whatever follows, there is at most one value at the front.
+-- Spellings that begin no other: whatever follows, bytes begin with at most one value.
 use Rattle.std.specs.List.{flat_map, AllByRecursion}
 use Rattle.std.proofs.Common.{◌≡◌, ℕ, ◌≤◌, List, [], ◌∷◌, ◌++◌, length, refl, sym, ap, subst, ◌∙◌, append_assoc, arith}
 use Rattle.code_writer.specs.Format.{Format, Begins, both, through, rows, counted, such}
 
--- no spelling is the front of another
+-- no spelling of a value begins that of another
 pub record IsPrefixFree {X : Type 0} (F : Format X) : Type 0 where
   pub one : (bytes : List ℕ) (x y : X) (r s : List ℕ) → Begins F bytes x r → Begins F bytes y s → (x ≡ y) × (r ≡ s)
 
@@ -16,14 +16,14 @@ both_begins F G bytes x r y s p q = record {
   parts = p.parts ∙ ap (λ (t : List ℕ). F.spell x ++ t) q.parts ∙ sym (append_assoc (F.spell x) (G.spell y) s);
 }
 
--- the first part of a pair at the front, and the second behind it
+-- bytes that begin with a pair begin with its first part, and then with its second
 pub both_first : {X Y : Type 0} (F : Format X) (G : Format Y) (bytes : List ℕ) (p : X × Y) (s : List ℕ) → Begins (both F G) bytes p s → Begins F bytes p.0 (G.spell p.1 ++ s)
 both_first F G bytes p s h = record { fits = h.fits.0; parts = h.parts ∙ append_assoc (F.spell p.0) (G.spell p.1) s }
 
 pub both_second : {X Y : Type 0} (F : Format X) (G : Format Y) (p : X × Y) (bytes s : List ℕ) → Begins (both F G) bytes p s → Begins G (G.spell p.1 ++ s) p.1 s
 both_second F G p bytes s h = record { fits = h.fits.1; parts = refl }
 
--- behind the first part that was read stands the second
+-- after the first part of a pair comes the second
 pub both_rest : {X Y : Type 0} (F : Format X) (G : Format Y) → IsPrefixFree F → (bytes : List ℕ) (x : X) (r : List ℕ) (p : X × Y) (s : List ℕ)
     → Begins F bytes x r → Begins (both F G) bytes p s → (x ≡ p.0) × Begins G r p.1 s
 both_rest F G free bytes x r p s h k =
@@ -57,7 +57,7 @@ such_prefix_free F P free = record {
 
 -- ---- rows
 
--- The rest of a row, behind what was read of it.
+-- The rest of a row, after the part of it that was read.
 pub rows_go_on : {X : Type 0} (F : Format X) → IsPrefixFree F → (xs : List X) (rest : List ℕ) (ys : List X) (s : List ℕ)
     → AllByRecursion F.Fits xs → AllByRecursion F.Fits ys → length xs ≤ length ys → flat_map F.spell xs ++ rest ≡ flat_map F.spell ys ++ s
     → (zs : List X) × (ys ≡ xs ++ zs) × AllByRecursion F.Fits zs × (rest ≡ flat_map F.spell zs ++ s)
@@ -84,7 +84,7 @@ append_nil : {X : Type 0} (xs : List X) → xs ++ [] ≡ xs
 append_nil [] = refl
 append_nil (x ∷ xs) = ap (λ ys. x ∷ ys) (append_nil xs)
 
--- a whole row that was read is the row that stands there
+-- a whole row that was read is the row at the beginning of the bytes
 pub rows_end : {X : Type 0} (F : Format X) → IsPrefixFree F → (xs : List X) (rest : List ℕ) (ys : List X) (s : List ℕ)
     → AllByRecursion F.Fits xs → AllByRecursion F.Fits ys → length xs ≡ length ys → flat_map F.spell xs ++ rest ≡ flat_map F.spell ys ++ s
     → (xs ≡ ys) × (rest ≡ s)

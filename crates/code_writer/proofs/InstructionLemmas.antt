@@ -72,7 +72,7 @@ head_is a b xs ys same = ap (λ bs. get_or bs 0 0) same
 pub tail_is : (a b : ℕ) (xs ys : List ℕ) → a ∷ xs ≡ b ∷ ys → xs ≡ ys
 tail_is a b xs ys same = ap (drop 1) same
 
--- values of one byte each
+-- values with numbers of one byte each
 by_number : {X : Type 0} (number : X → ℕ) (Fits : X → Type 0) → ((x y : X) → number x ≡ number y → x ≡ y) → IsPrefixFree (record { spell = λ x. number x ∷ []; Fits = Fits })
 by_number number Fits one = record {
   one = λ bytes x y r s h k.
@@ -177,7 +177,7 @@ held : (i : Instr) → HoldsArguments i → HoldsParts (parts_of i)
 held instr.Load h = h
 held i h = h
 
--- behind an opcode stand the other parts
+-- the other parts follow an opcode
 pub record Opened (o : Opcode) (r : List ℕ) (p : Parts) (s : List ℕ) : Type 0 where
   pub opcode_is : opcode_of p ≡ o
   pub rest_is : r ≡ rest_bytes p ++ s
@@ -192,11 +192,11 @@ opened most bytes o r i s h k =
       fits = held i k.fits.0;
     }
 
--- the same from any opcode
+-- an instruction is opened by its own opcode
 pub self_opened : (most : ℕ) (bytes : List ℕ) (i : Instr) (s : List ℕ) → Begins (instruction_format most) bytes i s → Begins (opcode_format most) bytes (opcode_of (parts_of i)) (rest_bytes (parts_of i) ++ s)
 self_opened most bytes i s h = record { fits = subst (λ n. n ≤ most) (number_is i) h.fits.1; parts = h.parts ∙ ap (λ bs. bs ++ s) (spelled i) }
 
--- ---- the parts behind an opcode, as values of a format
+-- ---- the parts after an opcode, as values of a format
 
 pub slot_in : (o : Slotted) (r : List ℕ) (p : Parts) (s : List ℕ) → Opened (opcode.Slotted o) r p s → (v : ℕ) × (p ≡ of_slot o v) × Begins u8_format r v s
 slot_in o r (of_slot q v) s h = (v, ap (λ (x : Slotted). of_slot x v) (cc (h.opcode_is)), record { fits = h.fits; parts = h.rest_is })

@@ -1,19 +1,19 @@
--- Bytes behind their number, numbers within limits and texts have one spelling, which no other begins.
+-- Bytes after their number, numbers within limits and texts have one spelling, which begins no other.
 use Rattle.std.specs.Str.{IsUtf8, encode_utf8_all, chars}
-use Rattle.std.proofs.Common.{◌≡◌, ℕ, ◌*◌, ◌<◌, ◌≤◌, ◌^◌, Bool, true, false, ◌&&◌, List, [], ◌∷◌, ◌++◌, length, refl, sym, ◌∙◌, append_assoc, arith}
+use Rattle.std.proofs.Common.{◌≡◌, ℕ, ◌*◌, ◌<◌, ◌≤◌, ◌^◌, Bool, true, false, ◌&&◌, List, [], ◌∷◌, ◌++◌, length, refl, ap, sym, ◌∙◌, append_assoc, arith}
 use Rattle.std.proofs.Math.Utf8.{scalars, encode}
-use Rattle.std.proofs.lemmas.Str.{chars-encodes, length-encode, len_utf8_bounds}
+use Rattle.std.proofs.lemmas.Str.{chars-encodes, encodes-chars, length-encode, len_utf8_bounds}
 use Rattle.std.proofs.lemmas.List.{length-append}
 use Rattle.term_core.specs.Limits.{AreScalars}
 use Rattle.term_core.specs.Sizes.{atom_limit, binary_limit}
-use Rattle.code_writer.specs.Spelling.{u32_bytes}
+use Rattle.code_writer.specs.Spelling.{u16_bytes, u32_bytes, text_bytes}
 use Rattle.code_writer.specs.File.{IsU16}
 use Rattle.code_writer.specs.Format.{Format, Begins}
 use Rattle.code_writer.specs.Formats.{u16_format, u32_format, bytes_format, utf8_format, size_format, binary_format, length_format, IsListLength}
 use Rattle.code_writer.proofs.FormatLemmas.{IsPrefixFree}
 use Rattle.code_writer.proofs.NumberLemmas.{u16_free, u32_free, bytes_free}
 
--- ---- bytes behind their number
+-- ---- bytes after their number
 
 abbrev pub raw : Format ℕ → Format (List ℕ)
 raw N = record { spell = λ bs. N.spell (length bs) ++ bs; Fits = λ bs. N.Fits (length bs) }
@@ -35,7 +35,7 @@ raw_free N free = record {
 
 -- ---- numbers within limits
 
--- the numbers in four bytes that are more than that
+-- the numbers of four bytes that also satisfy a condition
 abbrev pub limited : (ℕ → Type 0) → Format ℕ
 limited P = record { spell = u32_bytes; Fits = P }
 
@@ -70,7 +70,7 @@ utf8_raw bytes bs s h = record { fits = h.fits.0; parts = h.parts }
 pub utf8_free : IsPrefixFree utf8_format
 utf8_free = record { one = λ bytes bs cs r s h k. (raw_free u16_format u16_free).one bytes bs cs r s (utf8_raw bytes bs r h) (utf8_raw bytes cs s k) }
 
--- characters as bytes
+-- two tests that are both true
 so_both : (a b : Bool) → a ≡ true → b ≡ true → (a && b) ≡ true
 so_both true b h k = k
 so_both false b h k = h
@@ -91,3 +91,10 @@ text_length (c ∷ cs) = omega (arith, length-append (encode c) (encode_utf8_all
 
 pub text_fits : (cs : List ℕ) → length cs ≤ atom_limit → IsU16 (length (encode_utf8_all cs))
 text_fits cs short = omega (arith, text_length cs)
+
+-- the bytes of a text, by its characters
+pub text_bytes_are : (bs : List ℕ) → IsUtf8 bs → text_bytes (chars bs) ≡ u16_bytes (length bs) ++ bs
+text_bytes_are bs utf8 = ap (λ (t : List ℕ). u16_bytes (length t) ++ t) (encodes-chars bs utf8)
+
+pub text_bytes_fit : (bs : List ℕ) → IsUtf8 bs → length (chars bs) ≤ atom_limit → length bs < 2 ^ 16
+text_bytes_fit bs utf8 short = omega (arith, text_fits (chars bs) short, ap length (encodes-chars bs utf8))

@@ -1,4 +1,4 @@
--- Numbers have one spelling, which no other begins.
+-- Numbers have one spelling, which begins no other.
 use Rattle.std.specs.Prelude.{FitsSigned}
 use Rattle.std.specs.Int.{w64, cast_unsigned, cast_signed}
 use Rattle.byteorder.specs.Endian.{big_number}
@@ -12,7 +12,7 @@ use Rattle.code_writer.specs.Format.{Format}
 use Rattle.code_writer.specs.Formats.{u8_format, u16_format, u32_format, i64_format, bytes_format}
 use Rattle.code_writer.proofs.FormatLemmas.{IsPrefixFree}
 
--- spellings that are all equally long, and from which the value is read
+-- spellings of equal length, from which the value can be read back
 fixed : {X : Type 0} (F : Format X) (n : ℕ) (read : List ℕ → X) → ((x : X) → length (F.spell x) ≡ n) → ((x : X) → F.Fits x → read (F.spell x) ≡ x) → IsPrefixFree F
 fixed F n read long back = record {
   one = λ bytes x y r s h k.

@@ -13,7 +13,7 @@ use Rattle.code_writer.specs.declared.opcode.Slotted.TheVariants as slotted
 use Rattle.code_writer.specs.declared.opcode.Single.TheVariants as single
 use Rattle.code_writer.specs.declared.opcode.Double.TheVariants as double
 
--- these stand behind the places from this one on
+-- these opcodes are at the places from this one on
 abbrev are_numbered : ℕ → List Opcode → Bool
 are_numbered k [] = true
 are_numbered k (o ∷ os) = nat_eq (opcode_number o) (suc k) && are_numbered (suc k) os
@@ -31,7 +31,7 @@ number_at k (p ∷ os) numbered (suc i) o is =
     let later = number_at (suc k) os (second_so (nat_eq (opcode_number p) (suc k)) (are_numbered (suc k) os) numbered) i o is in
     omega (arith, later)
 
--- each stands in the table
+-- each opcode is in the table at its number
 stands : (o : Opcode) → slice_get ALL (opcode_number o - 1) ≡ Some o
 stands (opcode.Bare bare.Load) = refl
 stands (opcode.Slotted slotted.Get) = refl
@@ -46,13 +46,13 @@ positive (opcode.Single single.Const) = refl
 positive (opcode.Double double.Tuple) = refl
 positive o = refl
 
--- the numbers both ways
+-- an opcode is at a place exactly if its number is one more
 pub opcode_at : (number place : ℕ) (r : Option Opcode) → number ≡ suc place → r ≡ slice_get ALL place → (o : Opcode) → (r ≡ Some o) ↔ (opcode_number o ≡ number)
 opcode_at number place r next r_is o = (
   λ is. let found = number_at 0 ALL all_numbered place o (sym r_is ∙ is) in omega (arith, found, next),
   λ is. let same : opcode_number o - 1 ≡ place = omega (arith, is, next) in r_is ∙ sym (ap (slice_get ALL) same) ∙ stands o,
 )
 
--- one number for each
+-- opcodes with equal numbers are equal
 pub one_opcode : (o p : Opcode) → opcode_number o ≡ opcode_number p → o ≡ p
 one_opcode o p same = same_Some o p (sym (stands o) ∙ ap (λ n. slice_get ALL (n - 1)) same ∙ stands p)

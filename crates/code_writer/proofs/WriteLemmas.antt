@@ -1,18 +1,14 @@
--- Parts that are put behind what is written.
+-- Parts appended to what was written.
 use Rattle.std.proofs.Common.{◌≡◌, ℕ, zero, suc, ◌+◌, ◌<◌, ◌≤◌, ◌^◌, List, [], ◌∷◌, ◌++◌, length, get_or, take, drop, map, All, refl, sym, ap, subst, ◌∙◌, append_assoc, arith}
 use Rattle.std.specs.List.{flat_map}
-use Rattle.std.proofs.lemmas.List.{drop_more, drop_all, take_all, append-nil, length-append}
+use Rattle.std.proofs.lemmas.List.{drop_more, drop_all, take_all, append-nil}
 use Rattle.std.proofs.lemmas.List.Elements.{All-more}
-use Rattle.std.specs.Char.{len_utf8}
-use Rattle.std.specs.Str.{encode_utf8_all}
-use Rattle.std.proofs.Math.Utf8.{encode}
-use Rattle.std.proofs.lemmas.Str.{length-encode}
 use Rattle.mcode.specs.Program.{Frame}
 use Rattle.mcode.specs.declared.kind.Kind.{Kind}
 use Rattle.code_writer.specs.Spelling.{u16_bytes, place_bytes, frame_bytes}
 use Rattle.code_writer.specs.File.{IsU8, magic}
 
--- ---- one part behind another
+-- ---- one part after another
 
 pub two : (old a b n1 n2 : List ℕ) → n1 ≡ old ++ a → n2 ≡ n1 ++ b → n2 ≡ old ++ (a ++ b)
 two old a b n1 n2 e f = f ∙ ap (λ (t : List ℕ). t ++ b) e ∙ append_assoc old a b
@@ -23,7 +19,7 @@ three old a b c n1 n2 n3 e f g = two old a (b ++ c) n1 n3 e (two n1 b c n2 n3 f 
 pub four : (old a b c d n1 n2 n3 n4 : List ℕ) → n1 ≡ old ++ a → n2 ≡ n1 ++ b → n3 ≡ n2 ++ c → n4 ≡ n3 ++ d → n4 ≡ old ++ (a ++ (b ++ (c ++ d)))
 four old a b c d n1 n2 n3 n4 e f g h = two old a (b ++ (c ++ d)) n1 n4 e (three n1 b c d n2 n3 n4 f g h)
 
--- a whole file with six parts, put behind nothing
+-- a whole file of six parts, appended to nothing
 pub six : (h ds n s ps ts old n1 n2 n3 n4 n5 n6 : List ℕ) → old ≡ [] → n1 ≡ old ++ (magic ++ h) → n2 ≡ n1 ++ ds → n3 ≡ n2 ++ n → n4 ≡ n3 ++ s → n5 ≡ n4 ++ ps → n6 ≡ n5 ++ ts → n6 ≡ magic ++ (h ++ (ds ++ (n ++ ((s ++ ps) ++ ts))))
 six h ds n s ps ts old n1 n2 n3 n4 n5 n6 empty e1 e2 e3 e4 e5 e6 =
     two old (magic ++ h) (ds ++ (n ++ ((s ++ ps) ++ ts))) n1 n6 e1 (four n1 ds n (s ++ ps) ts n2 n3 n5 n6 e2 e3 (two n3 s ps n4 n5 e4 e5) e6)
@@ -31,7 +27,7 @@ six h ds n s ps ts old n1 n2 n3 n4 n5 n6 empty e1 e2 e3 e4 e5 e6 =
 
 -- ---- rows
 
--- So many values of a row are put behind what was written, and what holds of each is known of them.
+-- This number of values of a row has been appended to what was written, and each satisfies a condition.
 pub record IsWritten {X : Type 0} (spell : X → List ℕ) (Fits : X → Type 0) (xs : List X) (i : ℕ) (old now : List ℕ) : Type 0 where
   pub bytes : now ++ flat_map spell (drop i xs) ≡ old ++ flat_map spell xs
   pub each : All Fits (take i xs)
@@ -48,7 +44,7 @@ written_more {X} spell Fits xs i d old now new h within next fits = record {
   each = All-more Fits xs i d within h.each fits;
 }
 
--- the same of a value that stands at that place
+-- one more value of a row has been appended
 pub written_next : {X : Type 0} (spell : X → List ℕ) (Fits : X → Type 0) (xs : List X) (i : ℕ) (x : X) (old now new : List ℕ)
     → IsWritten spell Fits xs i old now → i < length xs → x ≡ get_or xs i x → new ≡ now ++ spell x → Fits x → IsWritten spell Fits xs (i + 1) old new
 written_next {X} spell Fits xs i x old now new h within is next fits =
@@ -60,7 +56,7 @@ written_bytes {X} spell Fits xs i old now h past = sym (ap (λ (ys : List X). no
 pub written_each : {X : Type 0} (spell : X → List ℕ) (Fits : X → Type 0) (xs : List X) (i : ℕ) (old now : List ℕ) → IsWritten spell Fits xs i old now → length xs ≤ i → All Fits xs
 written_each {X} spell Fits xs i old now h past = subst (λ (ys : List X). All Fits ys) (take_all i xs past) h.each
 
--- the value at a place of a row that is seen otherwise
+-- the value at a place of a row, mapped by a function
 pub seen_at : {X Y : Type 0} (f : X → Y) (xs : List X) (i : ℕ) (x : X) → i < length xs → x ≡ get_or xs i x → f x ≡ get_or (map f xs) i (f x)
 seen_at f [] i x within is = absurd (omega arith)
 seen_at f (y ∷ xs) zero x within is = ap f is
@@ -77,13 +73,7 @@ bytes_each [] h k d within = absurd (omega arith)
 bytes_each (b ∷ bs) h zero d within = h 0
 bytes_each (b ∷ bs) h (suc k) d within = bytes_each bs (λ i. h (suc i)) k d (omega arith)
 
--- the characters from one on
-pub text_rest : (cs : List ℕ) (i c : ℕ) → i < length cs → c ≡ get_or cs i c → length (encode_utf8_all (drop i cs)) ≡ len_utf8 c + length (encode_utf8_all (drop (i + 1) cs))
-text_rest cs i c within is =
-    ap (λ (t : List ℕ). length (encode_utf8_all t)) (drop_more cs i c within ∙ ap (λ (x : ℕ). x ∷ drop (i + 1) cs) (sym is))
-    ∙ omega (arith, length-append (encode c) (encode_utf8_all (drop (i + 1) cs)), length-encode c)
-
--- a frame's parts that were lent
+-- the parts of a frame, as they were borrowed
 pub frame_written : (f : Frame) (ps : List (ℕ × Kind)) (vs old new : List ℕ) → ps ≡ f.places → vs ≡ f.slots
     → new ≡ old ++ (u16_bytes f.pc ++ (u16_bytes f.depth ++ ((u16_bytes (length ps) ++ flat_map place_bytes ps) ++ (u16_bytes (length vs) ++ vs)))) → new ≡ old ++ frame_bytes f
 frame_written f ps vs old new ps_are vs_are parts = parts ∙ (λ i. old ++ frame_bytes (record { pc = f.pc; depth = f.depth; places = ps_are i; slots = vs_are i }))

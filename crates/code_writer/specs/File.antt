@@ -1,4 +1,4 @@
--- What a code file is.
+-- The code file of a program.
 use Rattle.std.specs.Prelude.{ℕ, ◌≡◌, ◌<◌, ◌^◌, List, [], ◌∷◌, ◌++◌, suc, length, slice_index_or, ◌≤◌, All}
 use Rattle.std.specs.List.{flat_map}
 use Rattle.term_core.specs.Limits.{IsTerm}
@@ -9,7 +9,7 @@ use Rattle.mcode.specs.declared.instr.Instr.{Instr}
 use Rattle.mcode.specs.declared.instr.Instr.TheVariants as instr
 use Rattle.code_writer.specs.Spelling.{u16_bytes, constants_bytes, instruction_bytes, instructions_bytes, frames_bytes, body_bytes, routine_bytes}
 
--- EMSC in ASCII
+-- the magic: EMSC in ASCII
 abbrev pub magic : List ℕ
 magic = 69 ∷ 77 ∷ 83 ∷ 67 ∷ []
 
@@ -17,12 +17,12 @@ magic = 69 ∷ 77 ∷ 83 ∷ 67 ∷ []
 abbrev pub version : ℕ
 version = 1
 
--- the version for code with routines
+-- the version of the format for code with routines
 abbrev pub routine_version : ℕ
 routine_version = 2
 
--- The one file of code, by its routines. Without any: the magic, the version, how many slots there are, then the
--- constants, the instructions and the frames, each behind their number. With some: the magic, the version, the
+-- The one file of code, given its routines. Without routines: the magic, the version, the number of slots, and then the
+-- constants, the instructions and the frames, each after their number. With routines: the magic, the version, the
 -- constants, the number of bodies, the main body, and the routines.
 abbrev pub file_of : Program → List Routine → List ℕ
 file_of p [] =
@@ -42,11 +42,11 @@ file_of p (t ∷ ts) =
 abbrev pub file_bytes : Program → List ℕ
 file_bytes p = file_of p p.around.routines
 
--- the greatest number of an instruction
+-- the largest number of an instruction
 abbrev pub most_opcode : ℕ
 most_opcode = 28
 
--- the greatest in code without routines; those above it are of code with routines
+-- the largest number of an instruction in code without routines; only code with routines has instructions above it
 abbrev pub plain_opcode : ℕ
 plain_opcode = 25
 
@@ -54,19 +54,19 @@ plain_opcode = 25
 abbrev pub instruction_number : Instr → ℕ
 instruction_number i = slice_index_or (instruction_bytes i) 0 0
 
--- an instruction up to this number
+-- an instruction whose number is at most this one
 abbrev pub IsUpTo : ℕ → Instr → Type 0
 IsUpTo most i = instruction_number i ≤ most
 
--- a number that two bytes hold
+-- a number that fits two bytes
 abbrev pub IsU16 : ℕ → Type 0
 IsU16 n = n < 2 ^ 16
 
--- a number that one byte holds
+-- a number that fits one byte
 abbrev pub IsU8 : ℕ → Type 0
 IsU8 n = n < 2 ^ 8
 
--- each argument of an instruction is held by its bytes
+-- each argument of an instruction fits its bytes
 abbrev pub HoldsArguments : Instr → Type 0
 HoldsArguments (instr.Const c) = IsU16 c
 HoldsArguments (instr.Get v) = IsU8 v
@@ -89,35 +89,34 @@ HoldsArguments (instr.MakeMap c l) = IsU16 c × IsU16 l
 HoldsArguments (instr.Invoke r l) = IsU16 r × IsU16 l
 HoldsArguments i = Unit {0}
 
--- the size that a kind names
+-- the size that a kind names fits its bytes
 abbrev pub HoldsSize : Kind → Type 0
 HoldsSize (kind.Tuple n) = IsU16 n
 HoldsSize k = Unit {0}
 
--- each number of a place
+-- each number of a place fits its bytes
 abbrev pub HoldsPlace : ℕ × Kind → Type 0
 HoldsPlace place = IsU16 place.0 × HoldsSize place.1
 
--- each number of a frame is held by its bytes
+-- each number of a frame fits its bytes
 pub record HoldsFrame (f : Frame) : Type 0 where
   pub pc : IsU16 f.pc
   pub depth : IsU16 f.depth
   pub places : All HoldsPlace f.places
   pub slots : All IsU8 f.slots
 
--- each number of a routine is held by its bytes
+-- each number of a routine fits its bytes
 pub record HoldsRoutine (t : Routine) : Type 0 where
   pub arguments : All HoldsSize t.arguments
   pub result : HoldsSize t.result
   pub instructions : All HoldsArguments t.body.instructions
   pub frames : All HoldsFrame t.body.frames
 
--- Code that has a file: where it has no routines, none of its instructions is one of those that code with routines alone
--- has.
+-- Code that has a file: if it has no routines, it has no instruction that only code with routines may have.
 abbrev pub HasFile : Program → Type 0
 HasFile p = p.around.routines ≡ [] → All (IsUpTo plain_opcode) p.instructions
 
--- the bytes are what is written of this code: all that they hold is held by them
+-- the bytes are what is written for this code, and all its numbers fit their bytes
 pub record IsFileOf (p : Program) (bytes : List ℕ) : Type 0 where
   pub constants : All IsTerm p.constants
   pub instructions : All HoldsArguments p.instructions
@@ -125,7 +124,8 @@ pub record IsFileOf (p : Program) (bytes : List ℕ) : Type 0 where
   pub routines : All HoldsRoutine p.around.routines
   pub spelling : bytes ≡ file_bytes p
 
--- The bytes are the code file of this code: it is code that has one, its constants are terms, and the bytes spell it.
+-- The bytes are the code file of this code: it is code that has a file, its constants are terms, its numbers fit their
+-- bytes, and the bytes spell it.
 pub record Spells (bytes : List ℕ) (p : Program) : Type 0 where
   pub program : IsWhole p
   pub file : HasFile p

@@ -33,16 +33,16 @@ u32_format = record { spell = u32_bytes; Fits = λ n. n < 2 ^ 32 }
 abbrev pub i64_format : Format ℤ
 i64_format = record { spell = i64_bytes; Fits = FitsSigned w64 }
 
--- so many bytes
+-- n bytes
 abbrev pub bytes_format : ℕ → Format (List ℕ)
 bytes_format n = record { spell = λ bs. bs; Fits = λ bs. length bs ≡ n }
 
--- an instruction, up to this number
+-- an instruction with a number up to this one
 abbrev pub instruction_format : ℕ → Format Instr
 instruction_format most =
     record { spell = instruction_bytes; Fits = λ i. HoldsArguments i × IsUpTo most i }
 
--- a term at most so deep
+-- a term of at most this depth
 abbrev pub constant_format : ℕ → Format Datum
 constant_format room =
     record {
@@ -50,12 +50,12 @@ constant_format room =
       Fits = λ d. IsSound d × (depth d ≤ room);
     }
 
--- an opcode, up to this number
+-- an opcode with a number up to this one
 abbrev pub opcode_format : ℕ → Format Opcode
 opcode_format most =
     record { spell = λ o. opcode_number o ∷ []; Fits = λ o. opcode_number o ≤ most }
 
--- a function of the table of calls
+-- a function other than those of two integers
 abbrev pub function_format : Format Function
 function_format = record { spell = λ f. function_number f ∷ []; Fits = λ _. Unit {0} }
 
@@ -63,7 +63,7 @@ function_format = record { spell = λ f. function_number f ∷ []; Fits = λ _. 
 abbrev pub arithmetic_format : Format Arithmetic
 arithmetic_format = record { spell = λ a. arithmetic_number a ∷ []; Fits = λ _. Unit {0} }
 
--- a kind that says something
+-- a kind other than Any
 abbrev pub kind_format : Format Kind
 kind_format = record { spell = kind_bytes; Fits = λ k. HoldsSize k × (k ≢ kind.Any) }
 
@@ -82,7 +82,7 @@ slots_format =
       Fits = λ vs. (IsU16 (length vs) × AllByRecursion IsU8 vs) × Rise (λ slot. slot) vs;
     }
 
--- what a frame has but the number of its instruction
+-- a frame without the number of its instruction
 abbrev pub frame_rest_format : Format (ℕ × (List (ℕ × Kind) × List ℕ))
 frame_rest_format = both u16_format (both places_format slots_format)
 
@@ -96,7 +96,7 @@ frame_format =
 
 -- ---- terms
 
--- the bytes of an atom
+-- the bytes of an atom, after their number
 abbrev pub utf8_format : Format (List ℕ)
 utf8_format =
     record {
@@ -104,11 +104,11 @@ utf8_format =
       Fits = λ bs. IsU16 (length bs) × IsUtf8 bs;
     }
 
--- how many bytes a binary has
+-- the number of bytes of a binary
 abbrev pub size_format : Format ℕ
 size_format = record { spell = u32_bytes; Fits = λ n. n ≤ binary_limit }
 
--- the bytes of a binary
+-- the bytes of a binary, after their number
 abbrev pub binary_format : Format (List ℕ)
 binary_format =
     record {
@@ -124,7 +124,7 @@ tuple_format room = counted u16_format (constant_format room)
 abbrev pub pair_format : ℕ → Format (Datum × Datum)
 pair_format room = both (constant_format room) (constant_format room)
 
--- keys that rise
+-- pairs with ascending keys
 abbrev pub RisingPairs : List (Datum × Datum) → Type 0
 RisingPairs ps = AreRising (entries_of ps)
 
@@ -132,12 +132,12 @@ RisingPairs ps = AreRising (entries_of ps)
 abbrev pub map_format : ℕ → Format (List (Datum × Datum))
 map_format room = such (counted u16_format (pair_format room)) RisingPairs
 
--- no list that is not empty
+-- a term that is not a list with elements
 abbrev pub IsNoCell : Datum → Type 0
 IsNoCell (cons head tail) = ⊥
 IsNoCell d = Unit {0}
 
--- how many elements a list may have
+-- a number of elements that a list may have
 abbrev pub IsListLength : ℕ → Type 0
 IsListLength n = (0 < n) × (n ≤ list_limit)
 
@@ -161,11 +161,11 @@ instructions_format most = counted u16_format (instruction_format most)
 abbrev pub frames_format : Format (List Frame)
 frames_format = such (counted u16_format frame_format) (Rise frame_number)
 
--- what a body has but its slots, its instructions up to this number
+-- the instructions, with numbers up to this one, and the frames of a body
 abbrev pub parts_format : ℕ → Format (List Instr × List Frame)
 parts_format most = both (instructions_format most) frames_format
 
--- how many slots there are
+-- the number of slots of a body
 abbrev pub slot_count_format : Format ℕ
 slot_count_format = such u16_format (λ n. n ≤ most_slots)
 
@@ -180,7 +180,7 @@ body_format = through body_parts (both slot_count_format (parts_format most_opco
 abbrev pub any_kind_format : Format Kind
 any_kind_format = record { spell = any_kind_bytes; Fits = HoldsSize }
 
--- how many arguments a routine has
+-- the number of arguments of a routine
 abbrev pub argument_count_format : Format ℕ
 argument_count_format = such u16_format (λ n. n ≤ most_arguments)
 
@@ -197,11 +197,11 @@ routine_parts t = ((t.arguments, t.result), t.body)
 abbrev pub routine_format : Format Routine
 routine_format = through routine_parts (both signature_format body_format)
 
--- how many bodies code with routines has
+-- the number of bodies of code with routines
 abbrev pub body_count_format : Format ℕ
 body_count_format = such u16_format (λ n. (2 ≤ n) × (n ≤ suc most_routines))
 
--- the main body and the routines, behind the number of them all
+-- the number of all bodies, and then the main body and the routines
 abbrev pub bodies_format : Format (Body × List Routine)
 bodies_format =
     record {
@@ -212,7 +212,7 @@ bodies_format =
           × (body_format.Fits p.0 × AllByRecursion routine_format.Fits p.1);
     }
 
--- ---- files behind their version
+-- ---- files after their version
 
 -- code without routines
 abbrev pub plain_format : Format (ℕ × (List Datum × (List Instr × List Frame)))

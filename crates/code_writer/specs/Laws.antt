@@ -4,12 +4,12 @@ use Rattle.term_core.specs.Limits.{IsTerm}
 use Rattle.mcode.specs.Program.{Program, IsWhole}
 use Rattle.code_writer.specs.File.{Spells, HasFile, HoldsArguments, HoldsFrame, HoldsRoutine, file_bytes}
 
--- bytes that spell two programs spell one
+-- bytes spell at most one program
 abbrev pub OneCode : Type 0
 OneCode = (bytes : List ℕ) (p q : Program) → Spells bytes p → Spells bytes q → p ≡ q
 
--- the file of a program spells it, and no other program: of one that is code and has a file, its constants terms, and
--- each number held by its bytes
+-- The file of a program spells that program and no other. It requires that the program is code that has a file, its
+-- constants are terms, and each of its numbers fits its bytes.
 abbrev pub ReadBack : Type 0
 ReadBack =
     (p : Program) → IsWhole p → HasFile p → All IsTerm p.constants

@@ -13,7 +13,7 @@ use Rattle.code_writer.specs.declared.opcode.Single.TheVariants as single
 use Rattle.code_writer.specs.declared.opcode.Double.{Double}
 use Rattle.code_writer.specs.declared.opcode.Double.TheVariants as double
 
--- the instruction without arguments
+-- the instruction of an opcode without arguments
 abbrev pub bare_instr : Bare → Instr
 bare_instr bare.Load = instr.Load
 bare_instr bare.Dup = instr.Dup
@@ -25,12 +25,12 @@ bare_instr bare.NoAnswer = instr.NoAnswer
 bare_instr bare.Return = instr.Return
 bare_instr bare.Fail = instr.Fail
 
--- the instruction of a slot
+-- the instruction of an opcode and a slot
 abbrev pub slotted_instr : Slotted → ℕ → Instr
 slotted_instr slotted.Get v = instr.Get v
 slotted_instr slotted.Bind v = instr.Bind v
 
--- the instruction of a number
+-- the instruction of an opcode and a number
 abbrev pub single_instr : Single → ℕ → Instr
 single_instr single.Const n = instr.Const n
 single_instr single.Field n = instr.Field n
@@ -43,7 +43,7 @@ single_instr single.Bool n = instr.Bool n
 single_instr single.Branch n = instr.Branch n
 single_instr single.MakeCons n = instr.MakeCons n
 
--- the instruction of two numbers
+-- the instruction of an opcode and two numbers
 abbrev pub double_instr : Double → ℕ → ℕ → Instr
 double_instr double.Tuple n l = instr.Tuple n l
 double_instr double.Value n l = instr.Value n l

@@ -14,25 +14,26 @@ use Rattle.mcode.specs.declared.kind.Kind.TheVariants as kind
 use Rattle.mcode.specs.declared.instr.Instr.{Instr}
 use Rattle.mcode.specs.declared.instr.Instr.TheVariants as instr
 
--- a number in two bytes
+-- a number as two bytes
 unfoldable pub u16_bytes : ℕ → List ℕ
 u16_bytes n = to_be_bytes w16 n
 
--- a number in four bytes
+-- a number as four bytes
 unfoldable pub u32_bytes : ℕ → List ℕ
 u32_bytes n = to_be_bytes w32 n
 
--- a whole number in eight bytes, in two's complement
+-- an integer as eight bytes, in two's complement
 unfoldable pub i64_bytes : ℤ → List ℕ
 i64_bytes z = to_be_bytes w64 (cast_unsigned w64 z)
 
--- an atom's characters in UTF-8, behind the count of these bytes
+-- the number of bytes of an atom's characters in UTF-8, and then these bytes
 abbrev pub text_bytes : List ℕ → List ℕ
 text_bytes characters =
     u16_bytes (length (encode_utf8_all characters)) ++ encode_utf8_all characters
 
 abbrev mutual
-  -- A term: its tag, then what the tag announces. A list is its elements and then its tail, which is no cell.
+  -- A term: its tag, and then what the tag requires. A list is its elements and then its tail, which is not a list with
+  -- elements.
   pub constant_bytes : Datum → List ℕ
   constant_bytes (integer z) = 1 ∷ i64_bytes z
   constant_bytes (atom cs) = 2 ∷ text_bytes cs
@@ -53,7 +54,7 @@ abbrev mutual
   entries_bytes no_entries = []
   entries_bytes (entry k v es) = constant_bytes k ++ constant_bytes v ++ entries_bytes es
 
-  -- what follows a list's first element: the other elements, and the tail as a term of its own
+  -- what follows a list's first element: the other elements, and the tail as a term
   pub cells_bytes : Datum → List ℕ
   cells_bytes (cons head tail) = constant_bytes head ++ cells_bytes tail
   cells_bytes (integer z) = 1 ∷ i64_bytes z
@@ -67,7 +68,7 @@ abbrev mutual
 abbrev pub pair_bytes : Datum × Datum → List ℕ
 pair_bytes pair = constant_bytes pair.0 ++ constant_bytes pair.1
 
--- an instruction: its number, then its arguments, slots and functions in one byte, all other numbers in two
+-- an instruction: its number and then its arguments; slots and functions take one byte, all other numbers two
 abbrev pub instruction_bytes : Instr → List ℕ
 instruction_bytes instr.Load = 1 ∷ []
 instruction_bytes (instr.Const c) = 2 ∷ u16_bytes c
@@ -98,7 +99,7 @@ instruction_bytes (instr.Invoke r l) = 26 ∷ u16_bytes r ++ u16_bytes l
 instruction_bytes instr.Return = 27 ∷ []
 instruction_bytes instr.Fail = 28 ∷ []
 
--- the kind of a place that is listed, which is never Any
+-- the kind of a place in a frame, which is never Any
 abbrev pub kind_bytes : Kind → List ℕ
 kind_bytes kind.Any = []
 kind_bytes kind.Int = 1 ∷ []
@@ -107,11 +108,11 @@ kind_bytes kind.Cons = 3 ∷ []
 kind_bytes kind.Map = 4 ∷ []
 kind_bytes (kind.Tuple n) = 5 ∷ u16_bytes n
 
--- a place that is listed, and its kind
+-- a place in a frame and its kind
 abbrev pub place_bytes : ℕ × Kind → List ℕ
 place_bytes place = u16_bytes place.0 ++ kind_bytes place.1
 
--- a frame: its instruction, its depth, how many places it lists and these, how many slots are bound and these
+-- a frame: its instruction, its depth, the number of its places and these, the number of its slots and these
 abbrev pub frame_bytes : Frame → List ℕ
 frame_bytes f =
     u16_bytes f.pc
@@ -119,7 +120,7 @@ frame_bytes f =
     ++ ((u16_bytes (length f.places) ++ flat_map place_bytes f.places)
     ++ (u16_bytes (length f.slots) ++ f.slots)))
 
--- constants, instructions and frames, each behind their number
+-- the number of constants, and then the constants
 abbrev pub constants_bytes : List Datum → List ℕ
 constants_bytes ds = u16_bytes (length ds) ++ flat_map constant_bytes ds
 
@@ -129,7 +130,7 @@ instructions_bytes is = u16_bytes (length is) ++ flat_map instruction_bytes is
 abbrev pub frames_bytes : List Frame → List ℕ
 frames_bytes fs = u16_bytes (length fs) ++ flat_map frame_bytes fs
 
--- a body: how many slots it has, its instructions and its frames
+-- a body: its number of slots, its instructions and its frames
 abbrev pub body_bytes : Body → List ℕ
 body_bytes b =
     u16_bytes b.slots ++ (instructions_bytes b.instructions ++ frames_bytes b.frames)
@@ -139,7 +140,7 @@ abbrev pub any_kind_bytes : Kind → List ℕ
 any_kind_bytes kind.Any = 0 ∷ []
 any_kind_bytes k = kind_bytes k
 
--- a routine: how many arguments it has and their kinds, the lowest first, the kind of its result, and its body
+-- a routine: the number of its arguments and their kinds, the lowest first, the kind of its result, and its body
 abbrev pub routine_bytes : Routine → List ℕ
 routine_bytes t =
     ((u16_bytes (length t.arguments) ++ flat_map any_kind_bytes t.arguments)

@@ -1,8 +1,8 @@
-//! Constants at the end of a file that is written.
+//! Writing constants.
 ghost use Rattle.std.specs.Prelude.{◌≡◌, ◌<◌, ◌≤◌, ◌++◌, All, length, OnOk};
 ghost use Rattle.std.specs.List.{flat_map};
 ghost use Rattle.std.specs.Option.{option_copied};
-ghost use Rattle.std.specs.Str.{encode_utf8_all};
+ghost use Rattle.std.specs.Str.{chars};
 ghost use Rattle.term_core.specs.Datum.{items_of, entries_of, cells};
 ghost use Rattle.term_core.specs.Datum.Datum.{integer, atom, tuple, map, binary};
 ghost use Rattle.term_core.specs.Limits.{IsTerm};
@@ -15,29 +15,6 @@ use crate::number::{put_i64, put_u8, put_u16, put_u32};
 use std::alloc::{AllocError, Allocator};
 use term_core::{Term, View};
 
-/// How many bytes an atom's characters have in UTF-8.
-fn text_len(characters: &[char]) -> u16
-    requires { length characters.now ≤ atom_limit }
-    ensures { result ≡ length (encode_utf8_all characters.now) }
-{
-    let mut len = 0;
-    for character in characters {
-        len += character.len_utf8() as u16;
-    }
-    len
-}
-
-/// Appends these characters in UTF-8.
-fn put_text<A: Allocator>(characters: &[char], out: &mut Vec<u8, A>) -> Result<(), AllocError>
-    ensures { OnOk result (out.new.items ≡ out.old.items ++ encode_utf8_all characters.now) }
-{
-    for character in characters {
-        let mut buffer = [0; 4];
-        out.extend_from_slice(character.encode_utf8(&mut buffer).as_bytes())?;
-    }
-    Ok(())
-}
-
 /// Appends an integer.
 fn put_integer<A: Allocator>(value: i64, out: &mut Vec<u8, A>) -> Result<(), AllocError>
     ensures { OnOk result (out.new.items ≡ out.old.items ++ constant_bytes (integer value)) }
@@ -47,13 +24,14 @@ fn put_integer<A: Allocator>(value: i64, out: &mut Vec<u8, A>) -> Result<(), All
 }
 
 /// Appends an atom.
-fn put_atom<A: Allocator>(characters: &[char], out: &mut Vec<u8, A>) -> Result<(), AllocError>
-    requires { length characters.now ≤ atom_limit }
-    ensures { OnOk result (out.new.items ≡ out.old.items ++ constant_bytes (atom characters.now)) }
+fn put_atom<A: Allocator>(text: &str, out: &mut Vec<u8, A>) -> Result<(), AllocError>
+    requires { length (chars text.now) ≤ atom_limit }
+    ensures { OnOk result (out.new.items ≡ out.old.items
+        ++ constant_bytes (atom (chars text.now))) }
 {
     put_u8(2, out)?;
-    put_u16(text_len(characters), out)?;
-    put_text(characters, out)
+    put_u16(text.len() as u16, out)?;
+    out.extend_from_slice(text.as_bytes())
 }
 
 /// Appends a binary.
@@ -66,7 +44,7 @@ fn put_binary<A: Allocator>(bytes: &[u8], out: &mut Vec<u8, A>) -> Result<(), Al
     out.extend_from_slice(bytes)
 }
 
-/// Appends a constant. The recursion goes as deep as the term, at most 255 levels.
+/// Appends a constant. The recursion is as deep as the term, at most 255 levels.
 #[cycle(constant)]
 fn put_constant<A: Allocator, B: Allocator>(
     term: &Term<A>,
@@ -77,7 +55,7 @@ fn put_constant<A: Allocator, B: Allocator>(
 {
     match term.view() {
         View::Integer(value) => put_integer(value, out),
-        View::Atom(characters) => put_atom(characters, out),
+        View::Atom(text) => put_atom(text, out),
         View::Tuple(elements) => put_tuple(elements, out),
         View::Map(pairs) => put_map(pairs, out),
         View::Nil => put_u8(5, out),
@@ -180,7 +158,7 @@ fn put_list<A: Allocator, B: Allocator>(
     put_tail(tail, out)
 }
 
-/// Appends the constants, behind their number.
+/// Appends the number of constants and then the constants.
 pub(crate) fn put_constants<A: Allocator, B: Allocator>(
     constants: &[Term<A>],
     out: &mut Vec<u8, B>,

@@ -1,4 +1,4 @@
-//! Whole code files, written.
+//! Writing whole code files.
 ghost use Rattle.std.specs.Prelude.{◌≡◌, ◌≢◌, ◌++◌, [], IfOk, OnOk};
 ghost use Rattle.code_writer.specs.Spelling.{u16_bytes};
 ghost use Rattle.code_writer.specs.File.{HasFile, Spells, IsFileOf, magic};
@@ -11,7 +11,7 @@ use std::alloc::{AllocError, Allocator};
 
 /// The version of the format for code without routines.
 const PLAIN_VERSION: u16 = 1;
-/// The version for code with routines.
+/// The version of the format for code with routines.
 const ROUTINE_VERSION: u16 = 2;
 
 /// Appends the magic, EMSC in ASCII, and the version.
@@ -22,7 +22,7 @@ fn put_header<A: Allocator>(version: u16, out: &mut Vec<u8, A>) -> Result<(), Al
     put_u16(version, out)
 }
 
-/// Appends code without routines to nothing.
+/// Writes the file of code without routines to `out`, which is empty.
 fn put_plain<A: Allocator, B: Allocator>(
     code: &Code<A>,
     out: &mut Vec<u8, B>,
@@ -37,7 +37,7 @@ fn put_plain<A: Allocator, B: Allocator>(
     put_parts(code.instructions(), code.frames(), out)
 }
 
-/// Appends code with routines to nothing.
+/// Writes the file of code with routines to `out`, which is empty.
 fn put_code<A: Allocator, B: Allocator>(
     code: &Code<A>,
     out: &mut Vec<u8, B>,
@@ -56,8 +56,9 @@ fn put_code<A: Allocator, B: Allocator>(
     Ok(())
 }
 
-/// The one code file of this code. It has no refusal but want of memory. Code without routines that has an instruction of
-/// those that are of routines has no file: what is written of it is refused by whoever reads it, as `verify` refuses it.
+/// Returns the one code file of this code. Fails if an allocation fails. Code without routines that has an instruction
+/// that only code with routines may have has no file: readers reject what is written for it, as `verify` rejects the
+/// code.
 #[tactic(auto, using(crate::proofs::FileLemmas::file_spells))]
 pub fn encode<A: Allocator + Copy>(alloc: A, code: &Code<A>) -> Result<Vec<u8, A>, AllocError>
     ensures ok { IfOk result (λ bytes. HasFile code.now → Spells bytes.items code.now) }

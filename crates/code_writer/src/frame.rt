@@ -1,4 +1,4 @@
-//! Frames at the end of a file that is written.
+//! Writing frames.
 ghost use Rattle.std.specs.Prelude.{◌≡◌, ◌≤◌, ◌++◌, All, length, map, OnOk};
 ghost use Rattle.std.specs.List.{flat_map};
 ghost use Rattle.mcode.specs.Frame.{frame_of};
@@ -10,7 +10,7 @@ use crate::number::{put_u8, put_u16};
 use mcode::{Frame, Kind};
 use std::alloc::{AllocError, Allocator};
 
-/// Appends a kind, nothing for `Kind::Any`.
+/// Appends a kind, or nothing for `Kind::Any`.
 pub(crate) fn put_kind<A: Allocator>(kind: Kind, out: &mut Vec<u8, A>) -> Result<(), AllocError>
     ensures bytes { OnOk result (out.new.items ≡ out.old.items ++ kind_bytes kind) }
     ensures held { HoldsSize kind }
@@ -38,7 +38,7 @@ fn put_place<A: Allocator>(place: (u16, Kind), out: &mut Vec<u8, A>) -> Result<(
     put_kind(kind, out)
 }
 
-/// Appends places, behind their number.
+/// Appends the number of places and then the places.
 fn put_places<A: Allocator>(places: &[(u16, Kind)], out: &mut Vec<u8, A>) -> Result<(), AllocError>
     requires { length places.now ≤ most_parts }
     ensures bytes { OnOk result (out.new.items ≡ out.old.items ++ (u16_bytes (length places.now)
@@ -52,7 +52,7 @@ fn put_places<A: Allocator>(places: &[(u16, Kind)], out: &mut Vec<u8, A>) -> Res
     Ok(())
 }
 
-/// Appends slots, which rise, behind their number.
+/// Appends the number of slots and then the slots, which are in ascending order.
 fn put_slots<A: Allocator>(slots: &[u8], out: &mut Vec<u8, A>) -> Result<(), AllocError>
     requires { Rise (λ slot. slot) slots.now }
     ensures bytes { OnOk result (out.new.items ≡ out.old.items ++ (u16_bytes (length slots.now)
@@ -78,7 +78,7 @@ fn put_frame<A: Allocator, B: Allocator>(
     put_slots(frame.slots.as_slice(), out)
 }
 
-/// Appends the frames, behind their number.
+/// Appends the number of frames and then the frames.
 pub(crate) fn put_frames<A: Allocator, B: Allocator>(
     frames: &[Frame<A>],
     out: &mut Vec<u8, B>,

@@ -1,4 +1,4 @@
-//! Instructions at the end of a file that is written.
+//! Writing instructions.
 ghost use Rattle.std.specs.Prelude.{◌≡◌, ◌≤◌, ◌++◌, ◌∷◌, [], All, length, OnOk};
 ghost use Rattle.std.specs.List.{flat_map};
 ghost use Rattle.mcode.specs.Program.{most_parts};
@@ -89,7 +89,7 @@ fn put_instr<A: Allocator>(instr: Instr, out: &mut Vec<u8, A>) -> Result<(), All
     }
 }
 
-/// Appends the instructions, behind their number.
+/// Appends the number of instructions and then the instructions.
 pub(crate) fn put_instrs<A: Allocator>(
     instrs: &[Instr],
     out: &mut Vec<u8, A>,

@@ -1,15 +1,15 @@
-//! What a code file is: code as bytes, one spelling each; and how code is written as its file.
+//! Code files: code as bytes, where each part has only one spelling. The crate defines the format and writes files.
 //!
-//! The contract: `file_bytes` of `specs/File.antt` gives the one file of code, by the bytes of each part in
-//! `specs/Spelling.antt`, and `Spells` says which bytes are the file of which code. `encode` writes it. By the law
+//! The contract: `file_bytes` of `specs/File.antt` is the one file of code, made of the bytes of each part in
+//! `specs/Spelling.antt`. `Spells` says which bytes are the file of which code. `encode` writes it. By the law
 //! `one_code` no file spells two programs, and by `read_back` the file of code spells that code alone.
 //!
-//! - `opcode`: the opcodes of instructions, by the arguments that they have.
-//! - `laws`: what files meet.
-//! - `number`, `instr`, `frame`, `constant`, `routine`: the parts, each put behind what is written; `encoding`: whole
+//! - `opcode`: the opcodes of instructions, grouped by the arguments that they have.
+//! - `laws`: laws of files.
+//! - `number`, `instr`, `frame`, `constant`, `routine`: the parts, each appended to what was written; `encoding`: whole
 //!   files.
 //!
-//! The formats of the parts, `specs/Formats.antt`, are what readers go by.
+//! Readers use the formats of the parts, `specs/Formats.antt`.
 #![tactic(auto)]
 
 mod constant;

@@ -1,4 +1,4 @@
-//! Numbers at the end of a file that is written.
+//! Writing numbers.
 ghost use Rattle.std.specs.Prelude.{◌≡◌, ◌++◌, ◌∷◌, [], OnOk};
 ghost use Rattle.code_writer.specs.Spelling.{u16_bytes, u32_bytes, i64_bytes};
 
@@ -13,7 +13,7 @@ pub(crate) fn put_u8<A: Allocator>(byte: u8, out: &mut Vec<u8, A>) -> Result<(),
     Ok(())
 }
 
-/// Appends a number in two bytes.
+/// Appends a number as two bytes, big-endian.
 #[tactic(auto, unfolding(crate::specs::Spelling::u16_bytes))]
 pub(crate) fn put_u16<A: Allocator>(number: u16, out: &mut Vec<u8, A>) -> Result<(), AllocError>
     ensures { OnOk result (out.new.items ≡ out.old.items ++ u16_bytes number) }
@@ -23,7 +23,7 @@ pub(crate) fn put_u16<A: Allocator>(number: u16, out: &mut Vec<u8, A>) -> Result
     out.extend_from_slice(&bytes)
 }
 
-/// Appends a number in four bytes.
+/// Appends a number as four bytes, big-endian.
 #[tactic(auto, unfolding(crate::specs::Spelling::u32_bytes))]
 pub(crate) fn put_u32<A: Allocator>(number: u32, out: &mut Vec<u8, A>) -> Result<(), AllocError>
     ensures { OnOk result (out.new.items ≡ out.old.items ++ u32_bytes number) }
@@ -33,7 +33,7 @@ pub(crate) fn put_u32<A: Allocator>(number: u32, out: &mut Vec<u8, A>) -> Result
     out.extend_from_slice(&bytes)
 }
 
-/// Appends a whole number in eight bytes.
+/// Appends an integer as eight bytes, big-endian in two's complement.
 #[tactic(auto, unfolding(crate::specs::Spelling::i64_bytes))]
 pub(crate) fn put_i64<A: Allocator>(number: i64, out: &mut Vec<u8, A>) -> Result<(), AllocError>
     ensures { OnOk result (out.new.items ≡ out.old.items ++ i64_bytes number) }

@@ -1,4 +1,4 @@
-//! The opcodes of instructions, by the arguments that they have.
+//! The opcodes of instructions, grouped by the arguments that they have.
 ghost use Rattle.std.specs.Prelude.{◌≡◌, ◌↔◌, Some, slice_get};
 ghost use Rattle.code_writer.specs.Opcodes.{bare_instr, slotted_instr, single_instr, double_instr, opcode_number};
 ghost use Rattle.code_writer.specs.declared.opcode.Opcode.{Opcode as AnyOpcode};
@@ -19,14 +19,14 @@ pub enum Bare {
     Fail,
 }
 
-/// Instructions of a slot.
+/// Instructions whose only argument is a slot.
 #[derive(Clone, Copy)]
 pub enum Slotted {
     Get,
     Bind,
 }
 
-/// Instructions of one number.
+/// Instructions whose only argument is a number of two bytes.
 #[derive(Clone, Copy)]
 pub enum Single {
     Const,
@@ -41,7 +41,7 @@ pub enum Single {
     MakeCons,
 }
 
-/// Instructions of two numbers.
+/// Instructions whose arguments are two numbers of two bytes each.
 #[derive(Clone, Copy)]
 pub enum Double {
     Tuple,
@@ -51,20 +51,20 @@ pub enum Double {
     Invoke,
 }
 
-/// An opcode.
+/// The opcode of an instruction.
 #[derive(Clone, Copy)]
 pub enum Opcode {
     Bare(Bare),
     Slotted(Slotted),
     Single(Single),
     Double(Double),
-    /// Of a function, how many arguments it has, and where to go otherwise.
+    /// Its arguments are a function, the number of its arguments, and the target of the jump.
     Call,
-    /// Of a function of two integers, and where to go otherwise.
+    /// Its arguments are a function of two integers and the target of the jump.
     Arith,
 }
 
-/// The opcodes in the order of their numbers, from 1.
+/// The opcodes in the order of their numbers, which begin with 1.
 const ALL: [Opcode; 28] = [
     Opcode::Bare(Bare::Load),
     Opcode::Single(Single::Const),
@@ -96,20 +96,20 @@ const ALL: [Opcode; 28] = [
     Opcode::Bare(Bare::Fail),
 ];
 
-/// The opcode at a place of the table, where there is one.
+/// Returns the opcode at a place of the table, counted from 0, or `None` after its end.
 fn at(table: &[Opcode], place: usize) -> Option<Opcode>
     ensures { result ≡ slice_get table.now place }
 {
     table.get(place).copied()
 }
 
-/// The greatest number of an opcode.
+/// The largest number of an opcode.
 pub const MAX_OPCODE: u8 = 28;
-/// The greatest number of an opcode in code without routines.
+/// The largest number of an opcode in code without routines.
 pub const MAX_PLAIN_OPCODE: u8 = 25;
 
 impl Opcode {
-    /// The opcode of this number, none where there is none.
+    /// Returns the opcode with this number, or `None` if there is none.
     pub fn numbered(number: u8) -> Option<Opcode>
         ensures { (o : AnyOpcode) → (result ≡ Some o) ↔ (opcode_number o ≡ number) }
     {
@@ -119,7 +119,7 @@ impl Opcode {
 }
 
 impl Bare {
-    /// The instruction.
+    /// Returns the instruction with this opcode.
     pub const fn instr(self) -> Instr
         ensures { result ≡ bare_instr self }
     {
@@ -138,7 +138,7 @@ impl Bare {
 }
 
 impl Slotted {
-    /// The instruction of this slot.
+    /// Returns the instruction with this opcode and slot.
     pub const fn instr(self, slot: u8) -> Instr
         ensures { result ≡ slotted_instr self slot }
     {
@@ -150,7 +150,7 @@ impl Slotted {
 }
 
 impl Single {
-    /// The instruction of this number.
+    /// Returns the instruction with this opcode and number.
     pub const fn instr(self, number: u16) -> Instr
         ensures { result ≡ single_instr self number }
     {
@@ -170,7 +170,7 @@ impl Single {
 }
 
 impl Double {
-    /// The instruction of these numbers, the second of which says where to go otherwise.
+    /// Returns the instruction with this opcode and numbers. The second number is the target of the jump.
     pub const fn instr(self, number: u16, otherwise: u16) -> Instr
         ensures { result ≡ double_instr self number otherwise }
     {

@@ -1,4 +1,4 @@
-//! Routines at the end of a file that is written.
+//! Writing routines.
 ghost use Rattle.std.specs.Prelude.{◌≡◌, ◌≤◌, ◌++◌, All, length, map, OnOk};
 ghost use Rattle.std.specs.List.{flat_map};
 ghost use Rattle.mcode.specs.Frame.{frame_of};
@@ -41,7 +41,7 @@ fn put_any_kind<A: Allocator>(kind: Kind, out: &mut Vec<u8, A>) -> Result<(), Al
     }
 }
 
-/// Appends the kinds of arguments, behind their number.
+/// Appends the number of arguments and then their kinds.
 fn put_arguments<A: Allocator>(kinds: &[Kind], out: &mut Vec<u8, A>) -> Result<(), AllocError>
     requires { length kinds.now ≤ most_arguments }
     ensures bytes { OnOk result (out.new.items ≡ out.old.items ++ (u16_bytes (length kinds.now)

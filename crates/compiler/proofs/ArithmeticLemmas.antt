@@ -1,4 +1,4 @@
--- Functions of two integers, which look at each argument behind its lines.
+-- Functions of two integers, which examine each argument after its lines.
 use Rattle.std.proofs.Common.{◌≡◌, ℕ, ℤ, suc, ◌+◌, false, List, [], ◌∷◌, ◌++◌, length, ◌⊎◌, inl, inr, refl, subst, arith, Option, Some, None}
 use Rattle.term_core.specs.Datum.{Datum}
 use Rattle.term_core.specs.Datum.Datum.{integer, atom, tuple, map, nil, cons, binary}
@@ -26,7 +26,7 @@ use Rattle.compiler.specs.Reach.{at, Comes, Lands}
 use Rattle.compiler.proofs.FailLemmas.{IsSite, after, fails, ends}
 use Rattle.compiler.proofs.ReachLemmas.{comes_by, comes_then, comes_landing}
 
--- a term that is an integer, or one that instructions see is none
+-- a term is an integer, or instructions see that it is none
 pub int_case : (d : Datum) → ((z : ℤ) × (d ≡ integer z)) ⊎ ((holds kind.Int d ≡ false) × (integer_of d ≡ None))
 int_case (integer z) = inl (z, refl)
 int_case (atom cs) = inr (refl, refl)
@@ -37,12 +37,12 @@ int_case (cons head tail) = inr (refl, refl)
 int_case (binary bs) = inr (refl, refl)
 
 module _ (p : Program) (o : Datum) (frame_slots : List ℕ) (behind : ℕ) (site : IsSite p behind) (slots : Bindings) (mode : Mode) (deep : ℕ) (integers : List (ℕ × Kind)) (base : List Datum) (count : length base ≡ deep) where
-  -- an integer is looked at
+  -- an integer passes the test
   integer_passes : (q n : ℕ) (z : ℤ) (stack : List Datum) → IsAt p frame_slots behind q (plain (op.Int (failure mode n))) → Comes p o (at q (integer z ∷ stack) slots) (at (suc q) (integer z ∷ stack) slots)
   integer_passes q n z stack h =
       comes_by p o (at q (integer z ∷ stack) slots) (at (suc q) (integer z ∷ stack) slots) _ h.instruction refl
 
-  -- what is no integer fails
+  -- a term that is no integer fails
   other_fails : (q e n r : ℕ) (d : Datum) (above : List Datum) → IsAt p frame_slots behind q (plain (op.Int (failure mode n))) → holds kind.Int d ≡ false → suc q + n ≡ suc e → Stands p frame_slots behind e (exit_lines mode deep integers) → e + length (exit_lines mode deep integers) ≡ r → Comes p o (at q (d ∷ (above ++ base)) slots) (after behind r base slots (failed mode))
   other_fails q e n r d above h none far exit end =
       let lands = fails p o frame_slots behind site slots mode deep integers q e n (d ∷ above) base exit far count in
@@ -50,7 +50,7 @@ module _ (p : Program) (o : Datum) (frame_slots : List ℕ) (behind : ℕ) (site
       comes_landing p o (at q (d ∷ (above ++ base)) slots) _ _ h.instruction (rw none lands')
 
   module _ (f : Arithmetic) (pc q1 q2 r n : ℕ) (i1 : IsAt p frame_slots behind q1 (plain (op.Int (failure mode n)))) (i2 : IsAt p frame_slots behind q2 (plain (op.Int (failure mode 2)))) (i3 : IsAt p frame_slots behind (suc q2) (plain (op.Arith f (failure mode 1)))) (far : suc q1 + n ≡ suc (suc (suc q2))) (exit : Stands p frame_slots behind (suc (suc q2)) (exit_lines mode deep integers)) (end : suc (suc q2) + length (exit_lines mode deep integers) ≡ r) where
-    -- behind the lines of both arguments
+    -- the run after the lines of both arguments
     two_values : (x y : Datum) (e : ℤ) → x ≡ integer e → Comes p o (at q2 (y ∷ x ∷ base) slots) (after behind r base slots (called mode (prim.Arithmetic f) (Some (x ∷ y ∷ []))))
     two_values x y z is =
         elim (int_case y) [

@@ -25,7 +25,7 @@ use Rattle.compiler.proofs.ListLemmas.{cells_run}
 use Rattle.compiler.proofs.PushLemmas.{const_runs, get_runs}
 use Rattle.compiler.proofs.ReachLemmas.{comes_here, comes_then, comes_same}
 
--- what a variable is bound to is in its slot
+-- the value of a variable is in its slot
 pub shown_binding : (vs : List ℕ) (slots : Bindings) (s : Substitution) (n : ℕ) (d : Datum) → AreShown vs slots s → lookup s n ≡ Some d → binding slots (rank_of vs n) ≡ Some d
 shown_binding vs slots [] n d h e = absurd (cc)
 shown_binding vs slots (f ∷ s) n d h e =
@@ -85,7 +85,7 @@ module _ (p : Program) (o : Datum) (frame_slots : List ℕ) (behind : ℕ) (site
       cell_length mode zero = refl
       cell_length mode (suc n) = ap suc (cell_length mode n)
 
-  -- '$$'
+  -- the run of the lines of '$$'
   pub bindings_run : (s : Substitution) (pc r : ℕ) → domain s ≡ w.bound → AreShown w.slots slots s → Stands p frame_slots behind pc (bindings_lines w deep integers w.bound) → pc + length (bindings_lines w deep integers w.bound) ≡ r → Comes p o (at pc base slots) (after behind r base slots (made w.mode (cells (values_of s) nil)))
   bindings_run [] pc r dom shown stands end =
       let stands' = subst (λ l. Stands p frame_slots behind pc (bindings_lines w deep integers l)) (sym dom) stands in

@@ -47,7 +47,7 @@ module _ (p : Program) (most : ℕ) (frame_slots : List ℕ) (behind : ℕ) (blo
   false_label Condition e h = h.1.0.frame
   false_label Body e h = h.1.0.frame
 
-  -- behind the value of an argument of andalso
+  -- the flow after the value of an argument of andalso
   pub and_flow : (mode : Mode) (q n e : ℕ) (others : List SourceLine) (deep' : ℕ) → IsAt p frame_slots behind q (plain (op.Bool (failure mode (n + 5)))) → IsAt p frame_slots behind (suc q) (plain (op.Branch (Ahead (n + 2)))) → suc (suc q) + n ≡ e → q < behind → Stands p frame_slots behind e (all_true_lines mode deep integers) → ((base : List Kind) (bs : List Bool) → AreBelow base (frame_kinds integers deep) → IsHeld p most frame_slots behind block bs → FlowsTo p most frame_slots (suc (suc q)) others (record { kinds = base; bound = bs }) deep' integers) → (t : Shape) → IsReady p frame_slots t (suc deep) integers → FlowsTo p most frame_slots q (plain (op.Bool (failure mode (n + 5))) ∷ plain (op.Branch (Ahead (n + 2))) ∷ others) t deep' integers
   and_flow mode q n e others deep' h1 h2 there within ending rest =
       top_then p most frame_slots behind block deep integers q _ deep' integers
@@ -59,7 +59,7 @@ module _ (p : Program) (most : ℕ) (frame_slots : List ℕ) (behind : ℕ) (blo
       test_then p most frame_slots behind block mode q (suc (suc (suc e))) (n + 5) deep integers _ _ _ kind.Bool k [] base bs deep' integers h1.instruction h1.frame refl refl refl refl tt refl refl refl (λ s. refl) within (all_true_exit p frame_slots behind mode e deep integers ending) far below held (omega (arith, room))
       (branch_then p most frame_slots behind block (suc q) (suc (suc q) + (n + 2)) _ others base bs deep integers deep' integers h2.instruction h2.frame ways below (omega (arith, room)) (rest base bs below held)))
 
-  -- behind the value of an argument of orelse
+  -- the flow after the value of an argument of orelse
   pub or_flow : (mode : Mode) (q n x r : ℕ) (others : List SourceLine) → IsAt p frame_slots behind q (plain (op.Bool (failure mode (n + 2)))) → IsAt p frame_slots behind (suc q) (plain (op.Branch (Ahead 2))) → IsAt p frame_slots behind (suc (suc q)) (plain (op.Const (boolean true))) → IsAt p frame_slots behind (suc (suc (suc q))) (before_label (op.Jump (Ahead n)) deep integers) → q < behind → Stands p frame_slots behind x (exit_lines mode deep integers) → suc (suc x) ≡ r → suc (suc (suc (suc q))) + n ≡ r → frame_at p.frames r ≡ Some (label_frame r (suc deep) integers frame_slots) → ((base : List Kind) (bs : List Bool) → AreBelow base (frame_kinds integers deep) → IsHeld p most frame_slots behind block bs → FlowsTo p most frame_slots (suc (suc (suc (suc q)))) others (record { kinds = base; bound = bs }) (suc deep) integers) → (t : Shape) → IsReady p frame_slots t (suc deep) integers → FlowsTo p most frame_slots q (plain (op.Bool (failure mode (n + 2))) ∷ plain (op.Branch (Ahead 2)) ∷ plain (op.Const (boolean true)) ∷ before_label (op.Jump (Ahead n)) deep integers ∷ others) t (suc deep) integers
   or_flow mode q n x r others h1 h2 h3 h4 within exit last there framed rest =
       top_then p most frame_slots behind block deep integers q _ (suc deep) integers

@@ -33,7 +33,7 @@ module _ (p : Program) (o : Datum) (frame_slots : List ℕ) (behind : ℕ) (site
       let lands = subst (λ t. jump p t (d ∷ base) slots ≡ Goes (at r (d ∷ base) slots)) (sym far) (label_lands p o frame_slots behind site slots r (suc deep) integers [] (d ∷ base) framed more) in
       comes_by p o (at pc (d ∷ base) slots) (at r (d ∷ base) slots) _ i.instruction lands
 
-  -- andalso is true behind its last argument
+  -- andalso is true after its last argument
   true_end : (mode : Mode) (e r : ℕ) → Stands p frame_slots behind e (all_true_lines mode deep integers) → e + length (all_true_lines mode deep integers) ≡ r → Comes p o (at e base slots) (at r (boolean true ∷ base) slots)
   true_end Condition e r h end =
       let there : suc (suc e) + 1 ≡ r = omega (arith, end) in
@@ -48,7 +48,7 @@ module _ (p : Program) (o : Datum) (frame_slots : List ℕ) (behind : ℕ) (site
       comes_then p o (at e base slots) (at (suc e) (boolean true ∷ base) slots) _ (const_runs p o frame_slots behind slots e base (boolean true) h.0)
       (jumps_over (suc e) 3 r (boolean true) h.1.0 framed there)
 
-  -- it is false where a jump leads to the constant behind
+  -- andalso is false if a jump leads to the constant after it
   false_end : (mode : Mode) (e r : ℕ) → Stands p frame_slots behind e (all_true_lines mode deep integers) → e + length (all_true_lines mode deep integers) ≡ r → Comes p o (at (suc (suc e)) base slots) (at r (boolean false ∷ base) slots)
   false_end Condition e r h end =
       let there : suc (suc (suc e)) ≡ r = omega (arith, end) in
@@ -64,12 +64,12 @@ module _ (p : Program) (o : Datum) (frame_slots : List ℕ) (behind : ℕ) (site
       (const_runs p o frame_slots behind slots (suc (suc e)) base (boolean false) h.1.1.0)
       (succeeds p o frame_slots behind site slots Body deep integers (suc (suc (suc e))) base (boolean false) h.1.1.1 count))
 
-  -- the label of the constant false
+  -- the label of the constant false has its frame
   false_framed : (mode : Mode) (e : ℕ) → Stands p frame_slots behind e (all_true_lines mode deep integers) → frame_at p.frames (suc (suc e)) ≡ Some (inside_frame (suc (suc e)) deep integers frame_slots)
   false_framed Condition e h = h.1.0.frame
   false_framed Body e h = h.1.0.frame
 
-  -- no truth value fails behind all lines
+  -- an argument of andalso that is no truth value fails past all lines
   and_fails : (mode : Mode) (q n e r : ℕ) (d : Datum) → Stands p frame_slots behind e (all_true_lines mode deep integers) → e + length (all_true_lines mode deep integers) ≡ r → suc (suc q) + n ≡ e → Lands p o (jump p (resolved behind q (failure mode (n + 5))) (d ∷ base) slots) (after behind r base slots (failed mode))
   and_fails Condition q n e r d h end far = (at behind [] slots, end_lands p o frame_slots behind site slots (d ∷ base), (0, refl))
   and_fails Body q n e r d h end far =
@@ -78,7 +78,7 @@ module _ (p : Program) (o : Datum) (frame_slots : List ℕ) (behind : ℕ) (site
       subst (λ m. Lands p o (jump p (resolved behind q (failure Body (n + 5))) (d ∷ base) slots) (after behind m base slots (failed Body))) there
       (fails p o frame_slots behind site slots Body deep integers q (suc (suc (suc e))) (n + 5) (d ∷ []) base h.1.1.1 x count)
 
-  -- one argument of andalso, where this comes of the others
+  -- one argument of andalso, given the run of the others
   pub and_run : (mode : Mode) (a rest : Option Datum) (pc q n e r : ℕ) → Comes p o (at pc base slots) (after behind q base slots a) → IsAt p frame_slots behind q (plain (op.Bool (failure mode (n + 5)))) → IsAt p frame_slots behind (suc q) (plain (op.Branch (Ahead (n + 2)))) → suc (suc q) + n ≡ e → Stands p frame_slots behind e (all_true_lines mode deep integers) → e + length (all_true_lines mode deep integers) ≡ r → Comes p o (at (suc (suc q)) base slots) (after behind r base slots rest) → Comes p o (at pc base slots) (after behind r base slots (and_step mode a rest))
   and_run mode None rest pc q n e r first i1 i2 far h end others = first
   and_run mode (Some d) rest pc q n e r first i1 i2 far h end others =
@@ -119,7 +119,7 @@ module _ (p : Program) (o : Datum) (frame_slots : List ℕ) (behind : ℕ) (site
       (const_runs p o frame_slots behind slots c base (boolean false) h.0)
       (succeeds p o frame_slots behind site slots Body deep integers (suc c) base (boolean false) h.1 count))
 
-  -- no truth value fails before the end of all lines
+  -- an argument of orelse that is no truth value fails past all lines
   or_fails : (mode : Mode) (q n x r : ℕ) (d : Datum) → Stands p frame_slots behind x (exit_lines mode deep integers) → suc (suc x) ≡ r → suc (suc (suc (suc q))) + n ≡ r → Lands p o (jump p (resolved behind q (failure mode (n + 2))) (d ∷ base) slots) (after behind r base slots (failed mode))
   or_fails Condition q n x r d h end far = (at behind [] slots, end_lands p o frame_slots behind site slots (d ∷ base), (0, refl))
   or_fails Body q n x r d h end far =
@@ -128,7 +128,7 @@ module _ (p : Program) (o : Datum) (frame_slots : List ℕ) (behind : ℕ) (site
       subst (λ m. Lands p o (jump p (resolved behind q (failure Body (n + 2))) (d ∷ base) slots) (after behind m base slots (failed Body))) there
       (fails p o frame_slots behind site slots Body deep integers q x (n + 2) (d ∷ []) base h x' count)
 
-  -- one argument of orelse, where this comes of the others
+  -- one argument of orelse, given the run of the others
   pub or_run : (mode : Mode) (a rest : Option Datum) (pc q n x r : ℕ) → Comes p o (at pc base slots) (after behind q base slots a) → IsAt p frame_slots behind q (plain (op.Bool (failure mode (n + 2)))) → IsAt p frame_slots behind (suc q) (plain (op.Branch (Ahead 2))) → IsAt p frame_slots behind (suc (suc q)) (plain (op.Const (boolean true))) → IsAt p frame_slots behind (suc (suc (suc q))) (before_label (op.Jump (Ahead n)) deep integers) → Stands p frame_slots behind x (exit_lines mode deep integers) → suc (suc x) ≡ r → suc (suc (suc (suc q))) + n ≡ r → frame_at p.frames r ≡ Some (inside_frame r (suc deep) integers frame_slots) → Comes p o (at (suc (suc (suc (suc q)))) base slots) (after behind r base slots rest) → Comes p o (at pc base slots) (after behind r base slots (or_step mode a rest))
   or_run mode None rest pc q n x r first i1 i2 i3 i4 h end far framed others = first
   or_run mode (Some d) rest pc q n x r first i1 i2 i3 i4 h end far framed others =

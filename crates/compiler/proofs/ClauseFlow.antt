@@ -52,7 +52,7 @@ module _ (p : Program) (most : ℕ) (frame_slots : List ℕ) (behind : ℕ) (blo
   sum_more : (e : Expression) (es : List Expression) → sum_by nodes (e ∷ es) ≡ nodes e + sum_by nodes es
   sum_more e es = sum_by-cons nodes e es
 
-  -- an expression with nothing below its value
+  -- the flow of an expression with nothing below its value
   whole_flow : (e : Expression) (pc r : ℕ) (bs : List Bool) → IsSoundExpression w.bound e → IsHeld p most frame_slots behind block bs → nodes e ≤ most → Stands p frame_slots behind pc (lines_at w 0 [] e by_itself) → pc + length (lines_at w 0 [] e by_itself) ≡ r → r ≤ behind → FlowsTo p most frame_slots pc (lines_at w 0 [] e by_itself) (record { kinds = []; bound = bs }) 1 []
   whole_flow e pc r bs sound held room stands end within =
       subst (λ n. FlowsTo p most frame_slots pc (lines_at w 0 [] e by_itself) (record { kinds = []; bound = bs }) (suc (up n 0)) []) (itself e)
@@ -80,7 +80,7 @@ module _ (p : Program) (most : ℕ) (frame_slots : List ℕ) (behind : ℕ) (blo
       nothing_below [] bs' below flow = flow
       nothing_below (k ∷ ks) bs' below flow = absurd below
 
-  -- ANSWER, behind which nothing is known
+  -- the answer instruction, after which nothing is known
   answer_step : (q : ℕ) (s : Shape) → IsAt p frame_slots behind q answer_line → IsReady p frame_slots s 1 [] → 1 ≤ most → Steps p most q s (start_shape p)
   answer_step q s h ready some = (
     instr.Answer,
@@ -137,7 +137,7 @@ module _ (p : Program) (most : ℕ) (vs : List ℕ) (slots_are : p.slots ≡ len
     head_flow (cell_of x y) pc r named room stands end within = loaded_flow (cell_of x y) pc r named room stands end within
     head_flow (map_of fs) pc r named room stands end within = loaded_flow (map_of fs) pc r named room stands end within
 
-  -- the slots of a clause's variables are bound where they are marked
+  -- the slots of a clause's variables are bound if they are marked
   marked_held : (bs : List Bool) (ns : List ℕ) → ((n : ℕ) → is_among ns n ≡ true → IsTrue (is_bound bs (rank_of vs n))) → All (λ slot. IsTrue (is_bound bs slot)) (map (rank_of vs) ns)
   marked_held bs [] h = All-nil (λ slot. IsTrue (is_bound bs slot))
   marked_held bs (n ∷ ns) h = All-cons (λ slot. IsTrue (is_bound bs slot)) (rank_of vs n) (map (rank_of vs) ns) (h n (among-first n ns)) (marked_held bs ns (λ m e. h m (among-rest n ns m e)))

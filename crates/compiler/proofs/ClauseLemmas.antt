@@ -1,4 +1,4 @@
--- The code of a clause answers where the clause applies, and else leads to what stands behind it.
+-- The code of a clause answers if the clause applies, and else leads to what comes after it.
 use Rattle.std.proofs.Common.{◌≡◌, ℕ, suc, ◌+◌, ◌<◌, cond, Bool, true, false, List, [], ◌∷◌, ◌++◌, length, map, replicate, ◌⊎◌, inl, inr, refl, sym, ◌∙◌, ap, subst, arith, Option, Some, None}
 use Rattle.std.specs.Prelude.{codes, nat_eq, All}
 use Rattle.std.specs.Option.{IsSome}
@@ -53,7 +53,7 @@ use Rattle.compiler.proofs.PatternLemmas.{after_first, pattern_run}
 use Rattle.compiler.proofs.PushLemmas.{load_runs}
 use Rattle.compiler.proofs.ReachLemmas.{comes_here, comes_by, comes_then, comes_same, runs_from, runs_to}
 
--- the atom true is the one that stands for it
+-- a term whose truth value is true is the atom true
 true_alone : (d : Datum) → boolean_of d ≡ Some true → d ≡ true_term
 true_alone (atom cs) h = by (pointwise nat_eq cs (codes "true")) (pointwise nat_eq cs (codes "false")) refl h
   where
@@ -80,7 +80,7 @@ module _ (p : Program) (o : Datum) (frame_slots : List ℕ) (behind : ℕ) (site
         (AllHold es s o × Comes p o (at pc [] slots) (at r [] slots))
         ⊎ ((AllHold es s o → ⊥) × Comes p o (at pc [] slots) (at behind [] slots))
 
-    -- behind the value of a condition
+    -- the run after the value of a condition
     condition_value : (e : Expression) (es : List Expression) (v : Option Datum) (pc q r : ℕ) → value_of Condition e s o ≡ v → Comes p o (at pc [] slots) (after_spread behind q 0 [] slots v) → IsAt p frame_slots behind q (plain (op.Bool Failing)) → IsAt p frame_slots behind (suc q) (plain (op.Branch Failing)) → HoldsOr (suc (suc q)) es r → HoldsOr pc (e ∷ es) r
     condition_value e es None pc q r is run h1 h2 rest = inr (λ all. absurd (let q = sym is ∙ all.0 in cc), run)
     condition_value e es (Some d) pc q r is run h1 h2 rest = by (boolean_of d) refl
@@ -161,7 +161,7 @@ module _ (p : Program) (o : Datum) (frame_slots : List ℕ) (behind : ℕ) (site
 
 -- ---- clauses
 
--- slots of a clause of which nothing is known are free
+-- the slots of a clause of which nothing is known are free
 free_first : (names : Names) (slots : Bindings) (ns : List ℕ) → AreFree (map (seen_at names slots []) ns)
 free_first names slots [] = tt
 free_first names slots (n ∷ ns) = (refl, free_first names slots ns)
@@ -211,7 +211,7 @@ module _ (p : Program) (o : Datum) (frame_slots : List ℕ) (behind : ℕ) (site
   head_run (cell_of x y) pc r slots inside count stands end = loaded (cell_of x y) pc r slots inside count stands end
   head_run (map_of fs) pc r slots inside count stands end = loaded (map_of fs) pc r slots inside count stands end
 
--- what a run comes to at a clause
+-- what the run comes to at a clause that applies
 record Answered (p : Program) (o : Datum) (from : State) (c : Clause) : Type 0 where
   substitution : Substitution
   applies : Applies c substitution o
@@ -289,7 +289,7 @@ module _ (p : Program) (o : Datum) (vs : List ℕ) (frames_inside : (n : ℕ) (g
             (rest.0, run.0, inr (h.never, rest.2), run.1)
       ]
 
--- every object's run of the code ends in what the specification means on it
+-- for every object, the run of the code ends with what the specification means for it
 pub code_runs : CodeRunsAsMeant
 unfolding code_of assembled
 code_runs spec sound inside o =

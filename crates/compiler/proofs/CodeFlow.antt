@@ -160,7 +160,7 @@ framed P fs n h = found (frame_at fs n) refl
     found None e = tt
     found (Some f) e = (found_frame P fs n f h e).0
 
--- it is never deeper than there are nodes
+-- the stack is never deeper than there are nodes
 pub depth_within_nodes : (spec : Specification) → All IsSoundClause spec → IsWithinLimits spec → (depth : ℕ) → IsDepth (code_of spec) depth → depth ≤ specification_nodes spec
 unfolding code_of
 depth_within_nodes spec sound limits depth d =

@@ -36,7 +36,7 @@ inside p typed n f e =
     let own = typed.bodies 0 (omega arith) in
     let found = found_frame (IsFrameFit p) p.frames n f own.1.frames e in omega (arith, found.0.inside, found.1)
 
--- what good code's runs come to
+-- what the runs of a specification's code end with
 abbrev pub Ends : Specification → Type 0
 Ends spec =
     (o : Datum) → (answer : Option Datum) × (n : ℕ) × Means spec o answer × HasRun (code_of spec) o n answer

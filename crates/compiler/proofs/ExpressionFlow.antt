@@ -40,7 +40,7 @@ use Rattle.compiler.proofs.FlowLemmas.{AreIntegers, integers_higher, integers_mo
 use Rattle.compiler.proofs.ReadyLemmas.{label_frame, no_lines, lines_then}
 use Rattle.compiler.proofs.StepLemmas.{IsHeld, many_then, top_then, const_then, load_then, get_then, exit_flow, made_then, cells_flow}
 
--- so many places more
+-- the depth plus n
 abbrev pub up : ℕ → ℕ → ℕ
 up zero deep = deep
 up (suc n) deep = up n (suc deep)
@@ -110,7 +110,7 @@ module _ (p : Program) (most : ℕ) (frame_slots : List ℕ) (behind : ℕ) (blo
       (λ above base' bs' size below' held'. cells_flow p most frame_slots behind block w.mode (length all) (suc q) (suc q + length all) deep integers above base' bs' size (stands_front p frame_slots behind (suc q) cell exit back.1) refl before exits ints below' held' (omega (arith, room)))
       u (suc (up (length all) deep)) (omega (arith, count)) ready'))
 
-  -- the cells of a list that isn't itself a tail
+  -- the flow of the cells of a list that isn't itself a tail
   list_flow : (ls : List SourceLine) (n pc r deep : ℕ) (integers : List (ℕ × Kind)) (s : Shape) → AreIntegers integers deep → suc n + suc deep ≤ suc most → Stands p frame_slots behind pc (ls ++ (cell_lines w.mode n ++ exit_lines w.mode deep integers)) → pc + length (ls ++ (cell_lines w.mode n ++ exit_lines w.mode deep integers)) ≡ r → r ≤ behind → FlowsTo p most frame_slots pc ls s (suc (up n deep)) integers → FlowsTo p most frame_slots pc (ls ++ (cell_lines w.mode n ++ exit_lines w.mode deep integers)) s (suc deep) integers
   list_flow ls n pc r deep integers s ints room stands end within flow =
       let cell = cell_lines w.mode n in
@@ -126,11 +126,11 @@ module _ (p : Program) (most : ℕ) (frame_slots : List ℕ) (behind : ℕ) (blo
       (λ above base bs size below held. cells_flow p most frame_slots behind block w.mode n q (q + n) deep integers above base bs size (stands_front p frame_slots behind q cell exit back) refl before exits ints below held (omega (arith, room)))
       u (suc (up n deep)) (omega (arith, count)) ready)
 
-  -- an expression that stands by itself leaves one place more
+  -- the flow of an expression by itself leaves one more place
   by_itself_flow : (e : Expression) (deep pc : ℕ) (ls : List SourceLine) (integers : List (ℕ × Kind)) (base : List Kind) (bs : List Bool) → FlowsTo p most frame_slots pc ls (record { kinds = base; bound = bs }) (suc (up (count_at e by_itself) deep)) integers → FlowsTo p most frame_slots pc ls (record { kinds = base; bound = bs }) (suc deep) integers
   by_itself_flow e deep pc ls integers base bs flow = subst (λ n. FlowsTo p most frame_slots pc ls (record { kinds = base; bound = bs }) (suc (up n deep)) integers) (itself e) flow
 
-  -- an element and what follows it
+  -- the flow of an element and what follows it
   cell_flow : (e f : Expression) (deep pc : ℕ) (integers : List (ℕ × Kind)) (base : List Kind) (bs : List Bool) → FlowsTo p most frame_slots pc (lines_at w deep integers e by_itself) (record { kinds = base; bound = bs }) (suc (up (count_at e by_itself) deep)) integers → ((t : Shape) → IsReady p frame_slots t (suc deep) integers → FlowsTo p most frame_slots (pc + length (lines_at w deep integers e by_itself)) (lines_at w (suc deep) integers f as_tail) t (suc (up (count_at f as_tail) (suc deep))) integers) → FlowsTo p most frame_slots pc (lines_at w deep integers e by_itself ++ lines_at w (suc deep) integers f as_tail) (record { kinds = base; bound = bs }) (suc (up (suc (cell_count f)) deep)) integers
   cell_flow e f deep pc integers base bs head tail =
       let front = lines_at w deep integers e by_itself in

@@ -1,4 +1,4 @@
--- The code of an expression pushes its value, or leads to the clause's end where it has none.
+-- The code of an expression pushes its value, or leads to the clause's end if it has none.
 use Rattle.std.proofs.Common.{◌≡◌, ℕ, zero, suc, ◌+◌, true, false, List, [], ◌∷◌, ◌++◌, length, refl, sym, ◌∙◌, ap, subst, arith, Option, Some, None}
 use Rattle.std.specs.Option.{IsSome, option_map}
 use Rattle.std.proofs.lemmas.Bool.{eqb-true}
@@ -100,7 +100,7 @@ tail_cells mode (new_cell e f) s o t h = by (value_at mode e by_itself s o) (val
     by (Some x) (Some y) more t h = let same : cons x y ≡ t = cc in subst (HasCells (suc (cell_count f))) same (more y refl)
 tail_cells mode f s o t h = tt
 
--- ---- one part behind another
+-- ---- one part after another
 
 module _ (p : Program) (o : Datum) (behind : ℕ) (slots : Bindings) where
   first_then : (a : Option Datum) (b : Option (List Datum)) (pc q r : ℕ) (base : List Datum) → Comes p o (at pc base slots) (after behind q base slots a) → ((d : Datum) → Comes p o (at q (d ∷ base) slots) (after_places the_list behind r (d ∷ base) slots b)) → Comes p o (at pc base slots) (after_places the_list behind r base slots (before a b))
@@ -125,7 +125,7 @@ module _ (p : Program) (o : Datum) (frame_slots : List ℕ) (behind : ℕ) (site
   known : (n : ℕ) → is_among w.bound n ≡ true → IsSome (lookup s n)
   known n h = lookup-some s n (ap (λ l. is_among l n) dom ∙ h)
 
-  -- only in a condition may a value be missing
+  -- a value can only be missing in a condition
   sure : (e : Expression) → IsSoundExpression w.bound e → value_at w.mode e by_itself s o ≡ None → failed w.mode ≡ None
   sure e sound none = by w.mode refl none
     where
@@ -145,7 +145,7 @@ module _ (p : Program) (o : Datum) (frame_slots : List ℕ) (behind : ℕ) (site
       let there : suc pc ≡ r = omega (arith, end) in
       comes_same p o (at pc base slots) _ _ (ap (λ m. at m (d ∷ base) slots) there) (const_runs p o frame_slots behind slots pc base d stands)
 
-  -- the cells of a list that isn't itself a tail
+  -- the run of the cells of a list that isn't itself a tail
   list_run : (v : Option Datum) (n pc q r deep : ℕ) (integers : List (ℕ × Kind)) (base : List Datum) → length base ≡ deep → ((d : Datum) → v ≡ Some d → HasCells (suc n) d) → Comes p o (at pc base slots) (after_spread behind q (suc n) base slots v) → Stands p frame_slots behind q (cell_lines w.mode (suc n)) → Stands p frame_slots behind (q + suc n) (exit_lines w.mode deep integers) → q + suc n + length (exit_lines w.mode deep integers) ≡ r → Comes p o (at pc base slots) (after behind r base slots (made_of w.mode v))
   list_run None n pc q r deep integers base count has run stands exit end = run
   list_run (Some d) n pc q r deep integers base count has run stands exit end =
@@ -156,7 +156,7 @@ module _ (p : Program) (o : Datum) (frame_slots : List ℕ) (behind : ℕ) (site
   cell_length mode zero = refl
   cell_length mode (suc n) = ap suc (cell_length mode n)
 
-  -- what a list that isn't itself a tail ends with stands behind its elements
+  -- the last lines of a list that isn't itself a tail come after its elements
   list_ends : (ls : List SourceLine) (n pc r deep : ℕ) (integers : List (ℕ × Kind)) (base : List Datum) (v : Option Datum) → length base ≡ deep → ((d : Datum) → v ≡ Some d → HasCells (suc n) d) → Stands p frame_slots behind pc (ls ++ (cell_lines w.mode (suc n) ++ exit_lines w.mode deep integers)) → pc + length (ls ++ (cell_lines w.mode (suc n) ++ exit_lines w.mode deep integers)) ≡ r → Comes p o (at pc base slots) (after_spread behind (pc + length ls) (suc n) base slots v) → Comes p o (at pc base slots) (after behind r base slots (made_of w.mode v))
   list_ends ls n pc r deep integers base v count has stands end run =
       let cell = cell_lines w.mode (suc n) in
@@ -168,7 +168,7 @@ module _ (p : Program) (o : Datum) (frame_slots : List ℕ) (behind : ℕ) (site
       let end' : q + suc n + length exit ≡ r = omega (arith, end, many, length-append ls (cell ++ exit), length-append cell exit) in
       list_run v n pc q r deep integers base count has run (stands_front p frame_slots behind q cell exit back) exits end'
 
-  -- an element and what follows it
+  -- the run of an element and what follows it
   cell_run : (e f : Expression) (pc r deep : ℕ) (integers : List (ℕ × Kind)) (base : List Datum) → length base ≡ deep → Stands p frame_slots behind pc (lines_at w deep integers e by_itself ++ lines_at w (suc deep) integers f as_tail) → pc + length (lines_at w deep integers e by_itself ++ lines_at w (suc deep) integers f as_tail) ≡ r → (Stands p frame_slots behind pc (lines_at w deep integers e by_itself) → Comes p o (at pc base slots) (after_spread behind (pc + length (lines_at w deep integers e by_itself)) (count_at e by_itself) base slots (value_at w.mode e by_itself s o))) → ((d : Datum) (q : ℕ) → length (d ∷ base) ≡ suc deep → Stands p frame_slots behind q (lines_at w (suc deep) integers f as_tail) → q + length (lines_at w (suc deep) integers f as_tail) ≡ r → Comes p o (at q (d ∷ base) slots) (after_spread behind r (count_at f as_tail) (d ∷ base) slots (value_at w.mode f as_tail s o))) → Comes p o (at pc base slots) (after_spread behind r (suc (cell_count f)) base slots (joined (value_at w.mode e by_itself s o) (value_at w.mode f as_tail s o)))
   cell_run e f pc r deep integers base count stands end run_head run_tail =
       let front = lines_at w deep integers e by_itself in

@@ -1,4 +1,4 @@
--- What follows where an instruction of an expression fails, or the last of its lines gives a value.
+-- What follows if an instruction of an expression fails, or if the last of its lines produces a value.
 use Rattle.std.proofs.Common.{◌≡◌, ℕ, suc, ◌+◌, ◌<◌, List, [], ◌∷◌, ◌++◌, length, refl, sym, ap, subst, arith, rules, Option, Some, None}
 use Rattle.term_core.specs.Datum.{Datum}
 use Rattle.mcode.specs.Machine.{Bindings, State, jump, push_or_jump}
@@ -16,15 +16,15 @@ use Rattle.compiler_expressions.specs.Expressions.{failure, exit_lines}
 use Rattle.compiler.specs.Reach.{at, Comes, Lands}
 use Rattle.compiler.proofs.ReachLemmas.{comes_here, comes_by, comes_same, jump_lands}
 
--- Code of which each frame is at an instruction, and lines in it behind which a frame of depth 0 stands, where they
--- fail.
+-- Code in which each frame is at an instruction, and lines in it after which there is a frame of depth 0, to which they
+-- lead if they fail.
 pub record IsSite (p : Program) (behind : ℕ) : Type 0 where
   pub inside : (n : ℕ) (g : Frame) → frame_at p.frames n ≡ Some g → n < length p.instructions
   pub exit : Frame
   pub framed : frame_at p.frames behind ≡ Some exit
   pub clean : exit.depth ≡ 0
 
--- where a run stands behind an expression's lines, or where the expression has no value
+-- the state of a run after an expression's lines, or if the expression has no value
 abbrev pub after : ℕ → ℕ → List Datum → Bindings → Option Datum → State
 after behind pc base slots None = at behind [] slots
 after behind pc base slots (Some d) = at pc (d ∷ base) slots
@@ -42,7 +42,7 @@ module _ (p : Program) (o : Datum) (frame_slots : List ℕ) (behind : ℕ) (site
       subst (λ l. jump p behind l slots ≡ Goes (at behind [] slots)) all
       (jump_lands p behind site.exit above [] slots site.inside site.framed site.clean)
 
-  -- an instruction that fails so many lines before the end of what its expression's lines end with
+  -- an instruction that fails leads n lines ahead, to the 'EXIT' of its expression's last lines
   pub fails : (mode : Mode) (depth : ℕ) (integers : List (ℕ × Kind)) (q e n : ℕ) (above base : List Datum) → Stands p frame_slots behind e (exit_lines mode depth integers) → suc q + n ≡ suc e → length base ≡ depth → Lands p o (jump p (resolved behind q (failure mode n)) (above ++ base) slots) (after behind (e + length (exit_lines mode depth integers)) base slots (failed mode))
   fails Condition depth integers q e n above base stands far deep =
       (at behind [] slots, end_lands (above ++ base), comes_here p o (at behind [] slots))
@@ -54,7 +54,7 @@ module _ (p : Program) (o : Datum) (frame_slots : List ℕ) (behind : ℕ) (site
       let there : suc (suc e) ≡ e + 2 = omega arith in
       (at (suc e) base slots, lands, comes_same p o (at (suc e) base slots) _ _ (ap (λ n. at n (exit_term ∷ base) slots) there) pushed)
 
-  -- behind the last line that may fail a value is there
+  -- after the last line that may fail, a value is there
   pub succeeds : (mode : Mode) (depth : ℕ) (integers : List (ℕ × Kind)) (e : ℕ) (base : List Datum) (d : Datum) → Stands p frame_slots behind e (exit_lines mode depth integers) → length base ≡ depth → Comes p o (at e (d ∷ base) slots) (at (e + length (exit_lines mode depth integers)) (d ∷ base) slots)
   succeeds Condition depth integers e base d stands deep =
       let there : e ≡ e + 0 = omega arith in
@@ -67,7 +67,7 @@ module _ (p : Program) (o : Datum) (frame_slots : List ℕ) (behind : ℕ) (site
       comes_same p o (at e (d ∷ base) slots) _ _ (ap (λ n. at n (d ∷ base) slots) there)
       (comes_by p o (at e (d ∷ base) slots) (at (suc (suc e)) (d ∷ base) slots) _ stands.0.instruction lands)
 
-  -- the last line that may fail gives a value or fails
+  -- the last line that may fail produces a value or fails
   pub ends : (mode : Mode) (depth : ℕ) (integers : List (ℕ × Kind)) (q : ℕ) (base : List Datum) (result : Option Datum) → Stands p frame_slots behind (suc q) (exit_lines mode depth integers) → length base ≡ depth → Lands p o (push_or_jump p q (resolved behind q (failure mode 1)) base slots result) (after behind (suc q + length (exit_lines mode depth integers)) base slots (or_failed mode result))
   ends mode depth integers q base None stands deep = fails mode depth integers q (suc q) 1 [] base stands (omega arith) deep
   ends mode depth integers q base (Some d) stands deep =

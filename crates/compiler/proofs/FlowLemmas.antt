@@ -1,4 +1,4 @@
--- Parts of code that are typed, one behind the other.
+-- Parts of code that are typed, one after the other.
 use Rattle.std.proofs.Common.{◌≡◌, ℕ, zero, suc, ◌+◌, ◌<◌, ◌≤◌, Bool, true, List, [], ◌∷◌, ◌++◌, length, set, slice_get, refl, sym, ◌∙◌, ap, subst, arith, Some, inl, inr}
 use Rattle.std.specs.Prelude.{IsTrue, All}
 use Rattle.std.proofs.lemmas.Bool.{cases_eq, eq-eqb, ne_eqb}
@@ -61,7 +61,7 @@ pub frame_length : (places : List (ℕ × Kind)) (n : ℕ) → length (frame_kin
 frame_length places zero = refl
 frame_length places (suc n) = ap suc (frame_length places n)
 
--- places that are integers, each below so many
+-- places that are integers, each below n
 abbrev pub AreIntegers : List (ℕ × Kind) → ℕ → Type 0
 AreIntegers places n = All (λ place. (place.0 < n) × (place.1 ≡ kind.Int)) places
 
@@ -87,7 +87,7 @@ kind_outside (x ∷ places) n m h le =
     let rest = All-tail (λ place. (place.0 < n) × (place.1 ≡ kind.Int)) x places h in
     rw (ne_eqb x.0 m (λ e. absurd (omega (arith, first.0, le, e)))) (kind_outside places n m rest le)
 
--- one more of them changes no place below it, and is one
+-- one more integer place changes no place below it
 pub kind_inside : (places : List (ℕ × Kind)) (n m : ℕ) → m < n → place_kind (places ++ (n, kind.Int) ∷ []) m ≡ place_kind places m
 kind_inside [] n m lt = rw (ne_eqb n m (λ e. absurd (omega (arith, lt, e)))) refl
 kind_inside (x ∷ places) n m lt =

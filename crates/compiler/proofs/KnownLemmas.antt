@@ -72,7 +72,7 @@ assigned_none g (v ∷ vs) n h =
       | inr z ↦ rw (ne_eqb v n z) (assigned_none g vs n (sym (ap (λ b. b || is_among vs n) (ne_eqb v n z)) ∙ h))
     ]
 
--- what is assigned is that of a variable of the clause
+-- what is assigned is the value of a variable of the clause
 pub assigned_some : (g : ℕ → Option Datum) (vs : List ℕ) (n : ℕ) (d : Datum) → assigned vs (map g vs) n ≡ Some d → (is_among vs n ≡ true) × (g n ≡ Some d)
 assigned_some g vs n d h = by (is_among vs n) refl
   where

@@ -20,7 +20,7 @@ use Rattle.compiler.specs.Spread.{spread, HasCells}
 use Rattle.compiler.proofs.FailLemmas.{IsSite, after, fails, succeeds}
 use Rattle.compiler.proofs.ReachLemmas.{comes_by, comes_then, comes_landing}
 
--- a list whose tail passes a limit as a list passes one
+-- if a list as a tail exceeds a limit, so does the list
 past_more : (h t head : Datum) → is_past_limits (cons h t) ≡ true → is_past_limits (cons head (cons h t)) ≡ true
 past_more h t head past =
     elim (or_cases (nat_lt depth_limit (depth (cons h t))) (is_too_long (cons h t)) past) [
@@ -38,7 +38,7 @@ past_more h t head past =
     or_true true b e = refl
     or_true false b e = e
 
--- the cell of a list behind so many elements: it lies on the stack in two places, or in one
+-- the cell of a list after n elements: it is on the stack in two places, or in one
 record IsCell (n : ℕ) (d : Datum) (base : List Datum) : Type 0 where
   head : Datum
   tail : Datum
@@ -64,7 +64,7 @@ cell_at (suc n) (cons first (cons head tail)) base h =
     }
 cell_at n d base h = absurd h
 
--- the list that is there once all its cells are made, where each was within its limits
+-- the list that results once all its cells are made, if each is within the limits
 abbrev checked : ℕ → Datum → Option Datum
 checked zero d = Some d
 checked (suc n) d = within_limits d

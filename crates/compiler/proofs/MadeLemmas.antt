@@ -16,12 +16,12 @@ use Rattle.compiler.specs.Spread.{spread}
 use Rattle.compiler.proofs.FailLemmas.{IsSite, after, ends}
 use Rattle.compiler.proofs.ReachLemmas.{comes_then, comes_landing}
 
--- where a run stands behind lines that push several values, or where one of them is missing
+-- the state of a run after lines that push several values, or if one of them is missing
 abbrev pub after_places : {X : Type 0} → (X → List Datum) → ℕ → ℕ → List Datum → Bindings → Option X → State
 after_places places behind pc base slots None = at behind [] slots
 after_places places behind pc base slots (Some x) = at pc (reverse_aux (places x) base) slots
 
--- where a run stands behind an expression of which the first elements lie on the stack one by one
+-- the state of a run after an expression whose first elements are separate places on the stack
 abbrev pub after_spread : ℕ → ℕ → ℕ → List Datum → Bindings → Option Datum → State
 after_spread behind pc n base slots None = at behind [] slots
 after_spread behind pc n base slots (Some d) = at pc (spread n d base) slots
@@ -35,7 +35,7 @@ spread_one p o s behind pc base slots None h = h
 spread_one p o s behind pc base slots (Some d) h = h
 
 module _ (p : Program) (o : Datum) (frame_slots : List ℕ) (behind : ℕ) (site : IsSite p behind) (slots : Bindings) (mode : Mode) (deep : ℕ) (integers : List (ℕ × Kind)) (base : List Datum) (count : length base ≡ deep) where
-  -- an instruction that makes a value of all of them, or fails
+  -- an instruction that makes one value of all of them, or fails
   pub made_run : {X : Type 0} (places : X → List Datum) (values : Option X) (value : Option X → Option Datum) (make : X → Option Datum) (pc q r : ℕ) (i : Instr) → value None ≡ None → ((x : X) → value (Some x) ≡ or_failed mode (make x)) → Comes p o (at pc base slots) (after_places places behind q base slots values) → slice_get p.instructions q ≡ Some i → ((x : X) → values ≡ Some x → outcome_at p o (at q (reverse_aux (places x) base) slots) (Some i) ≡ push_or_jump p q (resolved behind q (failure mode 1)) base slots (make x)) → Stands p frame_slots behind (suc q) (exit_lines mode deep integers) → suc q + length (exit_lines mode deep integers) ≡ r → Comes p o (at pc base slots) (after behind r base slots (value values))
   made_run places None value make pc q r i missing there run stands acts exit end = rw missing run
   made_run places (Some x) value make pc q r i missing there run stands acts exit end =

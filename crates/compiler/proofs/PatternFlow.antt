@@ -44,7 +44,7 @@ some_pattern (tuple_of ps) = omega arith
 some_pattern (cell_of q r) = omega arith
 some_pattern (map_of fs) = omega arith
 
--- a tail has one node more at most by itself
+-- a tail has at most one more node by itself
 tail_room : (q : Pattern) → pattern_nodes q ≤ suc (tail_nodes q)
 tail_room (variable n) = omega arith
 tail_room anything = omega arith
@@ -79,7 +79,7 @@ module _ (p : Program) (most : ℕ) (frame_slots : List ℕ) (behind : ℕ) (blo
         marked = others.marked;
       }
 
-  -- a line whose instruction may jump behind the block, or doesn't jump
+  -- a line whose instruction may jump past the block, or doesn't jump
   fit_then : (pc : ℕ) (l : SourceLine) (ls : List SourceLine) (i : Instr) (s : Shape) (ks : List Kind) (known : List ℕ) → slice_get p.instructions pc ≡ Some i → frame_at p.frames (suc pc) ≡ None → falling_shape p i s ≡ Some (left_shape p i s) → IsFit p most pc i s → BindsTo p most vs (suc pc) ls (left_shape p i s) ks known → BindsTo p most vs pc (l ∷ ls) s ks known
   fit_then pc l ls i s ks known h none on fit rest =
       bline_then pc l ls s (left_shape p i s) ks known (plain_step p most frame_slots behind block pc i s h none on fit) rest
@@ -142,7 +142,7 @@ module _ (p : Program) (most : ℕ) (frame_slots : List ℕ) (behind : ℕ) (blo
   right_named : (xs ys : List ℕ) → AreNamed (xs ++ ys) → AreNamed ys
   right_named xs ys h = λ m e. h m (among_right xs ys m e)
 
-  -- a pattern that spells a term binds nothing, or else
+  -- a pattern that spells a term binds nothing; any other has the given flow
   same_or_flow : (q : Pattern) (found : Option Datum) (ls : List SourceLine) (pc : ℕ) (known : List ℕ) (k : Kind) (ks : List Kind) (bs : List Bool) → own_term q ≡ found → AreMarked p vs bs known → suc (suc (length ks)) ≤ most → Stands p frame_slots behind pc (same_or found ls) → pc + length (same_or found ls) ≤ behind → (Stands p frame_slots behind pc ls → pc + length ls ≤ behind → BindsTo p most vs pc ls (record { kinds = k ∷ ks; bound = bs }) ks (known ++ pattern_variables q)) → BindsTo p most vs pc (same_or found ls) (record { kinds = k ∷ ks; bound = bs }) ks (known ++ pattern_variables q)
   same_or_flow q None ls pc known k ks bs is marked room stands within others = others stands within
   same_or_flow q (Some d) ls pc known k ks bs is marked room stands within others =

@@ -1,4 +1,4 @@
--- The code of a pattern matches what is on the top.
+-- The code of a pattern matches what is on the top of the stack.
 use Rattle.std.proofs.Common.{◌≡◌, ℕ, suc, ◌+◌, ◌<◌, cond, Bool, true, false, ◌||◌, List, [], ◌∷◌, ◌++◌, length, set, ◌⊎◌, inl, inr, refl, sym, ◌∙◌, ap, subst, arith, append_assoc, append-nil, Option, Some, None, option_map}
 use Rattle.std.proofs.lemmas.Bool.{cases_eq, eq-eqb, ne_eqb, or_cases, lt-ltb}
 use Rattle.std.proofs.lemmas.List.{length-append}
@@ -111,7 +111,7 @@ module _ (p : Program) (o : Datum) (frame_slots : List ℕ) (behind : ℕ) (site
   before_last from r r' base base' slots known now F c (inl h) = inl (record { slots_then = h.slots_then; comes = comes_then p o from (at r base h.slots_then) _ h.comes (c h.slots_then); binds = h.binds; kept = h.kept })
   before_last from r r' base base' slots known now F c (inr h) = inr h
 
-  -- one claim behind another
+  -- one claim after another
   one_then : (from : State) (q r : ℕ) (middle base : List Datum) (slots : Bindings) (known now last : List ℕ) (F G : (ℕ → Option Datum) → Type 0) → ((s t : ℕ → Option Datum) → Extends s t → F s → F t) → Decides p o names behind from q middle slots known now F → ((then : Bindings) → AreKept names then now → Decides p o names behind (at q middle then) r base then now last G) → Decides p o names behind from r base slots known last (λ s. F s × G s)
   one_then from q r middle base slots known now last F G more (inr h) rest = inr (record { slots_then = h.slots_then; comes = h.comes; never = Never-first names.own (own_slots names slots known) F G h.never; count = h.count })
   one_then from q r middle base slots known now last F G more (inl h) rest =
@@ -130,7 +130,7 @@ module _ (p : Program) (o : Datum) (frame_slots : List ℕ) (behind : ℕ) (site
         })
       ]
 
-  -- a claim that means the same
+  -- a claim that means the same as another
   same_claim : (from : State) (r : ℕ) (base : List Datum) (slots : Bindings) (known now : List ℕ) (F G : (ℕ → Option Datum) → Type 0) → ((s : ℕ → Option Datum) → F s → G s) → ((s : ℕ → Option Datum) → G s → F s) → Decides p o names behind from r base slots known now F → Decides p o names behind from r base slots known now G
   same_claim from r base slots known now F G to back (inl h) = inl (record {
     slots_then = h.slots_then;
@@ -148,7 +148,7 @@ module _ (p : Program) (o : Datum) (frame_slots : List ℕ) (behind : ℕ) (site
   never_run : (from : State) (r : ℕ) (base : List Datum) (slots : Bindings) (known now : List ℕ) (F : (ℕ → Option Datum) → Type 0) → AreKept names slots known → Comes p o from (at behind [] slots) → ((s : ℕ → Option Datum) → F s → ⊥) → Decides p o names behind from r base slots known now F
   never_run from r base slots known now F kept c none = inr (record { slots_then = slots; comes = c; never = λ s over extends claim. none s claim; count = kept.count })
 
-  -- two terms are compared, of which one is that of a claim
+  -- two terms are compared, one of which is that of a claim
   equal_run : (pc : ℕ) (d e : Datum) (base : List Datum) (slots : Bindings) (known : List ℕ) (F : (ℕ → Option Datum) → Type 0) → IsAt p frame_slots behind pc (plain (op.Equal Failing)) → AreKept names slots known → (d ≡ e → Binds names.own (own_slots names slots known) (own_slots names slots known) F) → ((d ≡ e → ⊥) → NeverHolds names.own (own_slots names slots known) F) → Decides p o names behind (at pc (e ∷ d ∷ base) slots) (suc pc) base slots known known F
   equal_run pc d e base slots known F h kept binds never =
       elim (same_or_not d e) [
@@ -166,7 +166,7 @@ module _ (p : Program) (o : Datum) (frame_slots : List ℕ) (behind : ℕ) (site
         })
       ]
 
-  -- a term that a pattern spells
+  -- the run of a pattern that spells a term
   same_run : (q : Pattern) (e : Datum) (pc r : ℕ) (d : Datum) (base : List Datum) (slots : Bindings) (known : List ℕ) → own_term q ≡ Some e → AreKept names slots known → Stands p frame_slots behind pc (same_lines e) → pc + 2 ≡ r → Decides p o names behind (at pc (d ∷ base) slots) r base slots known (known ++ pattern_variables q) (λ s. Fits q s d)
   same_run q e pc r d base slots known is kept stands end =
       let there : suc (suc pc) ≡ r = omega (arith, end) in
@@ -180,7 +180,7 @@ module _ (p : Program) (o : Datum) (frame_slots : List ℕ) (behind : ℕ) (site
       (subst (λ n. Decides p o names behind (at pc (d ∷ base) slots) n base slots known known (λ s. Fits q s d)) there run')
 
   module _ (inside : (n : ℕ) → is_among names.own n ≡ true → is_among names.all n ≡ true) where
-    -- one more mention of a variable that is known changes nothing
+    -- mentioning a variable that is known once more changes nothing
     still_known : (known : List ℕ) (n m : ℕ) → is_among known n ≡ true → is_among (known ++ n ∷ []) m ≡ is_among known m
     still_known known n m is =
         elim (cases_eq n m) [
@@ -243,7 +243,7 @@ module _ (p : Program) (o : Datum) (frame_slots : List ℕ) (behind : ℕ) (site
           kept = kept_new names inside slots known n d own is all kept;
         })
 
-    -- a variable, which is known or not
+    -- the run of a variable, which is known or not
     variable_run : (n pc r : ℕ) (known : List ℕ) (d : Datum) (base : List Datum) (slots : Bindings) → is_among names.own n ≡ true → ((m : ℕ) → is_among known m ≡ true → is_among names.own m ≡ true) → AreKept names slots known → Stands p frame_slots behind pc (variable_lines names.all known n) → pc + length (variable_lines names.all known n) ≡ r → Decides p o names behind (at pc (d ∷ base) slots) r base slots known (known ++ n ∷ []) (λ s. s n ≡ Some d)
     variable_run n pc r known d base slots own all kept stands end = by (is_among known n) refl stands end
       where
@@ -251,12 +251,12 @@ module _ (p : Program) (o : Datum) (frame_slots : List ℕ) (behind : ℕ) (site
         by true is stands end = known_again (at pc (d ∷ base) slots) r n known d base slots is (known_run n pc r known d base slots own is kept stands end)
         by false is stands end = new_run n pc r known d base slots own is all kept stands end
 
-    -- a pattern that spells a term, or else
+    -- the run of a pattern that spells a term; any other has the given run
     same_or_run : (q : Pattern) (found : Option Datum) (ls : List SourceLine) (pc r : ℕ) (known : List ℕ) (d : Datum) (base : List Datum) (slots : Bindings) → own_term q ≡ found → AreKept names slots known → Stands p frame_slots behind pc (same_or found ls) → pc + length (same_or found ls) ≡ r → (Stands p frame_slots behind pc ls → pc + length ls ≡ r → Decides p o names behind (at pc (d ∷ base) slots) r base slots known (known ++ pattern_variables q) (λ s. Fits q s d)) → Decides p o names behind (at pc (d ∷ base) slots) r base slots known (known ++ pattern_variables q) (λ s. Fits q s d)
     same_or_run q None ls pc r known d base slots is kept stands end others = others stands end
     same_or_run q (Some e) ls pc r known d base slots is kept stands end others = same_run q e pc r d base slots known is kept stands end
 
-    -- variables of the clause
+    -- these variables are the clause's own
     abbrev AreOwn : List ℕ → Type 0
     AreOwn ns = (m : ℕ) → is_among ns m ≡ true → is_among names.own m ≡ true
 

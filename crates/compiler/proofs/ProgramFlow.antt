@@ -28,7 +28,7 @@ use Rattle.compiler.specs.Flow.{IsFit, Flows}
 use Rattle.compiler.proofs.ClauseFlow.{IsNamed, clause_flow}
 use Rattle.compiler.proofs.FlowLemmas.{flows_then}
 
--- instructions that are typed one behind the other, and the last behind them
+-- instructions that are typed one after the other, and the last one after them
 pub record FlowsOut (p : Program) (most pc total : ℕ) : Type 0 where
   pub count : ℕ
   pub total_is : total ≡ suc count
@@ -75,7 +75,7 @@ module _ (p : Program) (most : ℕ) where
   last_shape zero pc s t f = f
   last_shape (suc n) pc s t f = last_shape n (suc pc) f.3.0 t f.3.2
 
-  -- an instruction that is typed, and how the next begins
+  -- an instruction that is typed, and the state with which the next one begins
   record IsIn (at pc k : ℕ) (shapes : ℕ → Shape) : Type 0 where
     instruction : Instr
     there : slice_get p.instructions at ≡ Some instruction
@@ -98,7 +98,7 @@ module _ (p : Program) (most : ℕ) where
       let rest = each_in n (suc pc) f.3.0 t f.3.2 k at (omega (arith, less)) (omega (arith, is)) in
       record { instruction = rest.instruction; there = rest.there; fit = rest.fit; next = rest.next }
 
--- what neither invokes a routine nor ends one may stand in the main body, whatever the depths of routines
+-- an instruction that neither invokes a routine nor ends one may be in the main body, whatever the depths of routines
 stays_placed : (p : Program) (i : Instr) → p.around.number ≡ 0 → StaysInBody i → IsPlaced p i
 stays_placed p instr.Answer main stays = main
 stays_placed p instr.NoAnswer main stays = main
@@ -132,7 +132,7 @@ module _ (p : Program) (most : ℕ) (within : most ≤ most_places) (main : p.ar
       let inside = slice_get_within p.instructions pc i here in
       subst StaysInBody (same_Some _ _ (sym (slice_get-get_or p.instructions pc i inside) ∙ here)) (All-get_or StaysInBody p.instructions pc i inside stay)
 
-  -- the main body begins with nothing
+  -- the main body begins without anything on the stack
   abbrev entered : ℕ → Shape
   entered n =
       record { kinds = reverse (arguments_of (routine_at p n)); bound = replicate p.slots false }
@@ -140,7 +140,7 @@ module _ (p : Program) (most : ℕ) (within : most ≤ most_places) (main : p.ar
   entry_is : entry_shape p ≡ start_shape p
   entry_is = ap entered main
 
-  -- how an instruction begins
+  -- the state with which an instruction begins
   begins_at : (pc : ℕ) → pc ≤ out.count → Begins p (falling_into p shapes pc) (frame_at p.frames pc) (shapes pc)
   begins_at zero le =
       let first = first_shape p most out.count 0 (start_shape p) (start_shape p) out.flows in
@@ -241,7 +241,7 @@ module _ (p : Program) (most : ℕ) (within : most ≤ most_places) (main : p.ar
   begun_depth falling (Some f) s shallow low begins =
       omega (arith, shallow, length-frame_kinds f.places f.depth, ap (λ t. length t.kinds) begins.0)
 
-  -- where no frame is deeper, neither is the stack
+  -- if no frame is deeper than `most`, neither is the stack
   pub depth_within : ((n : ℕ) → IfSome (frame_at p.frames n) (λ f. f.depth ≤ most)) → All (IsFrameFit p) p.frames → (depth : ℕ) → IsDepth p depth → depth ≤ most
   depth_within shallow fit depth d =
       let own = d.1.each 0 (omega arith) (omega arith) in

@@ -26,7 +26,7 @@ module _ (p : Program) (o : Datum) (frame_slots : List ℕ) (behind : ℕ) (slot
   get_runs pc v base d h is =
       comes_by p o (at pc base slots) (at (suc pc) (d ∷ base) slots) _ h.instruction (rw is refl)
 
-  -- operands that were pushed one by one are taken
+  -- an instruction takes operands that were pushed one by one
   pub replaced : (q target : ℕ) (ds base : List Datum) (f : List Datum → Option Datum) → replace_outcome p q target (reverse_aux ds base) slots (length ds) f ≡ push_or_jump p q target base slots (f ds)
   replaced q target ds base f =
       let split : reverse_aux ds base ≡ reverse ds ++ base = reverse_aux-eq ds base in

@@ -1,4 +1,4 @@
--- Runs, one part behind the other.
+-- Runs, one part after the other.
 use Rattle.std.proofs.Common.{◌≡◌, ℕ, zero, suc, ◌-◌, ◌<◌, ◌≤◌, List, ◌++◌, length, refl, sym, ◌∙◌, ap, subst, arith, Option, Some, slice_get}
 use Rattle.std.proofs.Math.Seq.{drop-append_seam}
 use Rattle.std.proofs.lemmas.List.{length-append}
@@ -28,7 +28,7 @@ module _ (p : Program) (o : Datum) where
   pub comes_by : (s t : State) (i : Instr) → slice_get p.instructions s.pc ≡ Some i → outcome_at p o s (Some i) ≡ Goes t → Comes p o s t
   comes_by s t i h e = (1, (t, ap (outcome_at p o s) h ∙ e, refl))
 
-  -- it leads to where the run comes on
+  -- the instruction at a state leads to a state from which the run continues
   pub comes_landing : (s t : State) (i : Instr) → slice_get p.instructions s.pc ≡ Some i → Lands p o (outcome_at p o s (Some i)) t → Comes p o s t
   comes_landing s t i h l = comes_then s l.0 t (comes_by s l.0 i h l.1) l.2
 
@@ -60,7 +60,7 @@ module _ (p : Program) (o : Datum) where
   pub runs_to : (s t : State) (a : Option Datum) → Comes p o s t → step p o t ≡ Ends a → (m : ℕ) × RunsFrom p o m (Goes s) a
   runs_to s t a c h = runs_on c.0 s t a c.1 h
 
--- a jump to a frame that has as many places as these, which are the lowest
+-- a jump to a frame that has as many places as `base`, which are the lowest
 pub jump_lands : (p : Program) (target : ℕ) (f : Frame) (above base : List Datum) (slots : Bindings) → ((n : ℕ) (g : Frame) → frame_at p.frames n ≡ Some g → n < length p.instructions) → frame_at p.frames target ≡ Some f → f.depth ≡ length base → jump p target (above ++ base) slots ≡ Goes (at target base slots)
 jump_lands p target f above base slots inside framed depth =
     let within : target < length p.instructions = inside target f framed in

@@ -42,7 +42,7 @@ module _ (p : Program) (most : ℕ) (frame_slots : List ℕ) (behind : ℕ) (blo
         ready = others.ready;
       }
 
-  -- the state that a label says
+  -- a state that is as a label says is ready
   pub label_ready : (pc deep : ℕ) (integers : List (ℕ × Kind)) → IsReady p frame_slots (shape_of p (label_frame pc deep integers frame_slots)) deep integers
   label_ready pc deep integers =
       let none : length (replicate p.slots false) ≡ p.slots = length-replicate p.slots false in
@@ -52,22 +52,22 @@ module _ (p : Program) (most : ℕ) (frame_slots : List ℕ) (behind : ℕ) (blo
         bound = marks_bound (replicate p.slots false) frame_slots (subst (λ n. All (λ slot. slot < n) frame_slots) (sym none) block.slots);
       }
 
-  -- an instruction without a label behind it
+  -- an instruction without a label after it
   pub plain_step : (pc : ℕ) (i : Instr) (s : Shape) → slice_get p.instructions pc ≡ Some i → frame_at p.frames (suc pc) ≡ None → falling_shape p i s ≡ Some (left_shape p i s) → IsFit p most pc i s → Steps p most pc s (left_shape p i s)
   plain_step pc i s h none on fit = (i, h, fit, rw none on)
 
-  -- one behind which a label stands that says no more than what is left
+  -- an instruction with a label after it, which says no more than what is left
   pub label_step : (pc deep : ℕ) (integers : List (ℕ × Kind)) (i : Instr) (s : Shape) → slice_get p.instructions pc ≡ Some i → frame_at p.frames (suc pc) ≡ Some (label_frame (suc pc) deep integers frame_slots) → falling_shape p i s ≡ Some (left_shape p i s) → IsFit p most pc i s → IsReady p frame_slots (left_shape p i s) deep integers → Steps p most pc s (shape_of p (label_frame (suc pc) deep integers frame_slots))
   label_step pc deep integers i s h framed on fit ready =
       (i, h, fit, rw framed (refl, rw on (record { kinds = ready.kinds; bound = ready.bound })))
 
-  -- one that doesn't go on
+  -- an instruction that doesn't continue with the next one
   pub last_step : (pc deep : ℕ) (integers : List (ℕ × Kind)) (i : Instr) (s : Shape) → slice_get p.instructions pc ≡ Some i → frame_at p.frames (suc pc) ≡ Some (label_frame (suc pc) deep integers frame_slots) → falling_shape p i s ≡ None → IsFit p most pc i s → Steps p most pc s (shape_of p (label_frame (suc pc) deep integers frame_slots))
   last_step pc deep integers i s h framed off fit = (i, h, fit, rw framed (refl, rw off tt))
 
   -- ---- jumps
 
-  -- a jump to a label inside the block from a state whose lowest places are those of the label
+  -- a jump to a label inside the block fits from a state whose lowest places are those of the label
   pub label_fits : (pc target deep : ℕ) (integers : List (ℕ × Kind)) (above base : List Kind) (bs : List Bool) → frame_at p.frames target ≡ Some (label_frame target deep integers frame_slots) → pc < target → AreBelow base (frame_kinds integers deep) → All (λ slot. IsTrue (is_bound bs slot)) frame_slots → IsTarget p pc target × IfSome (frame_at p.frames target) (λ f. IsCutBelow (record { kinds = above ++ base; bound = bs }) f)
   label_fits pc target deep integers above base bs framed ahead below bound =
       let count : length base ≡ deep = below_length base (frame_kinds integers deep) below ∙ frame_length integers deep in
@@ -81,7 +81,7 @@ module _ (p : Program) (most : ℕ) (frame_slots : List ℕ) (behind : ℕ) (blo
             }),
       )
 
-  -- a jump behind the block
+  -- a jump past the block fits
   pub end_fits : (pc : ℕ) (ks : List Kind) (bs : List Bool) → pc < behind → IsTarget p pc behind × IfSome (frame_at p.frames behind) (λ f. IsCutBelow (record { kinds = ks; bound = bs }) f)
   end_fits pc ks bs ahead =
       let rest : length ks - 0 ≡ length ks = omega arith in (
@@ -97,7 +97,7 @@ module _ (p : Program) (most : ℕ) (frame_slots : List ℕ) (behind : ℕ) (blo
       none_left [] = tt
       none_left (k ∷ ks) = none_left ks
 
-  -- where an instruction of an expression fails
+  -- a jump to where an instruction of an expression fails, fits
   pub fail_fits : (mode : Mode) (deep : ℕ) (integers : List (ℕ × Kind)) (q e n : ℕ) (above base : List Kind) (bs : List Bool) → Stands p frame_slots behind e (exit_lines mode deep integers) → suc q + n ≡ suc e → q < behind → AreBelow base (frame_kinds integers deep) → All (λ slot. IsTrue (is_bound bs slot)) frame_slots → IsTarget p q (resolved behind q (failure mode n)) × IfSome (frame_at p.frames (resolved behind q (failure mode n))) (λ f. IsCutBelow (record { kinds = above ++ base; bound = bs }) f)
   fail_fits Condition deep integers q e n above base bs stands far within below bound = end_fits q (above ++ base) bs within
   fail_fits Body deep integers q e n above base bs stands far within below bound =

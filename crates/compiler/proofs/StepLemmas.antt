@@ -28,7 +28,7 @@ use Rattle.compiler.specs.Ready.{IsBlock, IsReady, Steps, FlowsTo}
 use Rattle.compiler.proofs.FlowLemmas.{below_any, below_length, frame_length, AreIntegers, kind_outside}
 use Rattle.compiler.proofs.ReadyLemmas.{label_frame, line_then, no_lines, label_ready, plain_step, label_step, last_step, label_fits, fail_fits}
 
--- so many of the kinds above the others
+-- the kinds are split into n above and the others below
 record IsSplit (n deep : ℕ) (integers : List (ℕ × Kind)) (ks : List Kind) : Type 0 where
   above : List Kind
   base : List Kind
@@ -50,14 +50,14 @@ module _ (p : Program) (most : ℕ) (frame_slots : List ℕ) (behind : ℕ) (blo
   abbrev pub IsHeld : List Bool → Type 0
   IsHeld bs = (length bs ≡ p.slots) × All (λ slot. IsTrue (is_bound bs slot)) frame_slots
 
-  -- a state with these places on those that are ready
+  -- a state with n places above those that are ready
   pub many_then : (n deep : ℕ) (integers : List (ℕ × Kind)) (pc : ℕ) (ls : List SourceLine) (deep' : ℕ) (integers' : List (ℕ × Kind)) → ((above base : List Kind) (bs : List Bool) → length above ≡ n → AreBelow base (frame_kinds integers deep) → IsHeld bs → FlowsTo p most frame_slots pc ls (record { kinds = above ++ base; bound = bs }) deep' integers') → (t : Shape) (m : ℕ) → m ≡ n + deep → IsReady p frame_slots t m integers → FlowsTo p most frame_slots pc ls t deep' integers'
   many_then n deep integers pc ls deep' integers' rest t m e ready =
       let split = split_below n m deep integers t.kinds e ready.kinds in
       subst (λ ks. FlowsTo p most frame_slots pc ls (record { kinds = ks; bound = t.bound }) deep' integers') (sym split.is)
       (rest split.above split.base t.bound split.count split.below (ready.count, ready.bound))
 
-  -- one more place of any kind
+  -- one more place of any kind is ready
   pub more_ready : (k : Kind) (base : List Kind) (bs : List Bool) (deep : ℕ) (integers : List (ℕ × Kind)) → AreIntegers integers deep → AreBelow base (frame_kinds integers deep) → IsHeld bs → IsReady p frame_slots (record { kinds = k ∷ base; bound = bs }) (suc deep) integers
   more_ready k base bs deep integers ints below held =
       let any : place_kind integers deep ≡ kind.Any = kind_outside integers deep deep ints (omega arith) in
@@ -113,7 +113,7 @@ module _ (p : Program) (most : ℕ) (frame_slots : List ℕ) (behind : ℕ) (blo
       (label_step p most frame_slots behind block pc (suc deep) integers _ s h.instruction h.frame refl fit (more_ready _ base bs deep integers ints below held))
       (no_lines p most frame_slots behind block (suc pc) _ (suc deep) integers (label_ready p most frame_slots behind block (suc pc) (suc deep) integers))
 
-  -- what an expression's lines end with where one of them may fail
+  -- the flow of the last lines of an expression of which one may fail
   pub exit_flow : (mode : Mode) (e deep : ℕ) (integers : List (ℕ × Kind)) (k : Kind) (base : List Kind) (bs : List Bool) → Stands p frame_slots behind e (exit_lines mode deep integers) → AreIntegers integers deep → AreBelow base (frame_kinds integers deep) → IsHeld bs → suc deep ≤ most → FlowsTo p most frame_slots e (exit_lines mode deep integers) (record { kinds = k ∷ base; bound = bs }) (suc deep) integers
   exit_flow Condition e deep integers k base bs stands ints below held room =
       no_lines p most frame_slots behind block e (record { kinds = k ∷ base; bound = bs }) (suc deep) integers (more_ready k base bs deep integers ints below held)
@@ -123,9 +123,9 @@ module _ (p : Program) (most : ℕ) (frame_slots : List ℕ) (behind : ℕ) (blo
       jump_then e 1 deep (suc deep) integers (before_label (op.Const exit_term) (suc deep) integers ∷ []) (k ∷ base) bs (suc deep) integers stands.0 framed (more_ready k base bs deep integers ints below held).kinds held room
       (λ t ready. const_label (suc e) exit_term deep integers t.kinds t.bound stands.1.0 ints ready.kinds (ready.count, ready.bound) room)
 
-  -- ---- operands that are taken
+  -- ---- operands that are consumed
 
-  -- an instruction that takes so many places, may fail, and pushes one
+  -- an instruction that takes n places, may fail, and pushes one
   made_step : (mode : Mode) (q e n far deep : ℕ) (integers : List (ℕ × Kind)) (i : Instr) (k : Kind) (above base : List Kind) (bs : List Bool) → slice_get p.instructions q ≡ Some i → frame_at p.frames (suc q) ≡ None → needs p i ≡ n → target_of i ≡ Some (resolved behind q (failure mode far)) → pushed_kinds p i (above ++ base) ≡ k ∷ [] → left_bound i bs ≡ bs → IsConstantFit p i → IsTrue (kinds_fit i (above ++ base)) → IsTrue (slot_fits p i bs) → top_stays i ≡ false → ((s : Shape) → falling_shape p i s ≡ Some (left_shape p i s)) → length above ≡ n → q < behind → Stands p frame_slots behind e (exit_lines mode deep integers) → suc q + far ≡ suc e → AreBelow base (frame_kinds integers deep) → IsHeld bs → suc deep ≤ most → Steps p most q (record { kinds = above ++ base; bound = bs }) (record { kinds = k ∷ base; bound = bs })
   made_step mode q e n far deep integers i k above base bs h none takes target pushes keeps constant fits slot stays on count within exit there below held room =
       let s : Shape = record { kinds = above ++ base; bound = bs } in
@@ -145,21 +145,21 @@ module _ (p : Program) (most : ℕ) (frame_slots : List ℕ) (behind : ℕ) (blo
       } in
       subst (λ x. Steps p most q s x) left (plain_step p most frame_slots behind block q i s h none (on s) fit)
 
-  -- the same, and what the expression ends with
+  -- an instruction that takes n places, may fail, and pushes one, followed by the last lines of the expression
   pub made_then : (mode : Mode) (q n deep : ℕ) (integers : List (ℕ × Kind)) (i : Instr) (l : SourceLine) (k : Kind) (above base : List Kind) (bs : List Bool) → slice_get p.instructions q ≡ Some i → frame_at p.frames (suc q) ≡ None → needs p i ≡ n → target_of i ≡ Some (resolved behind q (failure mode 1)) → pushed_kinds p i (above ++ base) ≡ k ∷ [] → left_bound i bs ≡ bs → IsConstantFit p i → IsTrue (kinds_fit i (above ++ base)) → IsTrue (slot_fits p i bs) → top_stays i ≡ false → ((s : Shape) → falling_shape p i s ≡ Some (left_shape p i s)) → length above ≡ n → q < behind → Stands p frame_slots behind (suc q) (exit_lines mode deep integers) → AreIntegers integers deep → AreBelow base (frame_kinds integers deep) → IsHeld bs → suc deep ≤ most → FlowsTo p most frame_slots q (l ∷ exit_lines mode deep integers) (record { kinds = above ++ base; bound = bs }) (suc deep) integers
   made_then mode q n deep integers i l k above base bs h none takes target pushes keeps constant fits slot stays on count within exit ints below held room =
       line_then p most frame_slots behind block q l (exit_lines mode deep integers) (record { kinds = above ++ base; bound = bs }) (record { kinds = k ∷ base; bound = bs }) (suc deep) integers
       (made_step mode q (suc q) n 1 deep integers i k above base bs h none takes target pushes keeps constant fits slot stays on count within exit (omega arith) below held room)
       (exit_flow mode (suc q) deep integers k base bs exit ints below held room)
 
-  -- the same alone
+  -- an instruction that takes n places, may fail, and pushes one, with nothing after it
   pub made_alone : (mode : Mode) (q n deep : ℕ) (integers : List (ℕ × Kind)) (i : Instr) (l : SourceLine) (k : Kind) (above base : List Kind) (bs : List Bool) → slice_get p.instructions q ≡ Some i → frame_at p.frames (suc q) ≡ None → needs p i ≡ n → target_of i ≡ Some (resolved behind q (failure mode 1)) → pushed_kinds p i (above ++ base) ≡ k ∷ [] → left_bound i bs ≡ bs → IsConstantFit p i → IsTrue (kinds_fit i (above ++ base)) → IsTrue (slot_fits p i bs) → top_stays i ≡ false → ((s : Shape) → falling_shape p i s ≡ Some (left_shape p i s)) → length above ≡ n → q < behind → Stands p frame_slots behind (suc q) (exit_lines mode deep integers) → AreIntegers integers deep → AreBelow base (frame_kinds integers deep) → IsHeld bs → suc deep ≤ most → FlowsTo p most frame_slots q (l ∷ []) (record { kinds = above ++ base; bound = bs }) (suc deep) integers
   made_alone mode q n deep integers i l k above base bs h none takes target pushes keeps constant fits slot stays on count within exit ints below held room =
       line_then p most frame_slots behind block q l [] (record { kinds = above ++ base; bound = bs }) (record { kinds = k ∷ base; bound = bs }) (suc deep) integers
       (made_step mode q (suc q) n 1 deep integers i k above base bs h none takes target pushes keeps constant fits slot stays on count within exit (omega arith) below held room)
       (no_lines p most frame_slots behind block (suc q) (record { kinds = k ∷ base; bound = bs }) (suc deep) integers (more_ready k base bs deep integers ints below held))
 
-  -- a place that has to be of a kind
+  -- a test that a place is of a kind
   pub test_then : (mode : Mode) (q e n deep : ℕ) (integers : List (ℕ × Kind)) (i : Instr) (l : SourceLine) (ls : List SourceLine) (k : Kind) (top : Kind) (above base : List Kind) (bs : List Bool) (deep' : ℕ) (integers' : List (ℕ × Kind)) → slice_get p.instructions q ≡ Some i → frame_at p.frames (suc q) ≡ None → needs p i ≡ 1 → target_of i ≡ Some (resolved behind q (failure mode n)) → pushed_kinds p i (top ∷ (above ++ base)) ≡ k ∷ [] → left_bound i bs ≡ bs → IsConstantFit p i → IsTrue (kinds_fit i (top ∷ (above ++ base))) → IsTrue (slot_fits p i bs) → top_stays i ≡ true → ((s : Shape) → falling_shape p i s ≡ Some (left_shape p i s)) → q < behind → Stands p frame_slots behind e (exit_lines mode deep integers) → suc q + n ≡ suc e → AreBelow base (frame_kinds integers deep) → IsHeld bs → suc (length above + deep) ≤ most → FlowsTo p most frame_slots (suc q) ls (record { kinds = k ∷ (above ++ base); bound = bs }) deep' integers' → FlowsTo p most frame_slots q (l ∷ ls) (record { kinds = top ∷ (above ++ base); bound = bs }) deep' integers'
   test_then mode q e n deep integers i l ls k top above base bs deep' integers' h none takes target pushes keeps constant fits slot stays on within exit far below held room rest =
       let s : Shape = record { kinds = top ∷ (above ++ base); bound = bs } in
@@ -179,7 +179,7 @@ module _ (p : Program) (most : ℕ) (frame_slots : List ℕ) (behind : ℕ) (blo
       line_then p most frame_slots behind block q l ls s (record { kinds = k ∷ (above ++ base); bound = bs }) deep' integers'
       (subst (λ x. Steps p most q s x) left (plain_step p most frame_slots behind block q i s h none (on s) fit)) rest
 
-  -- ---- one place and two places on those that are ready
+  -- ---- one and two places above those that are ready
 
   pub top_then : (deep : ℕ) (integers : List (ℕ × Kind)) (pc : ℕ) (ls : List SourceLine) (deep' : ℕ) (integers' : List (ℕ × Kind)) → ((k : Kind) (base : List Kind) (bs : List Bool) → AreBelow base (frame_kinds integers deep) → IsHeld bs → FlowsTo p most frame_slots pc ls (record { kinds = k ∷ base; bound = bs }) deep' integers') → (t : Shape) → IsReady p frame_slots t (suc deep) integers → FlowsTo p most frame_slots pc ls t deep' integers'
   top_then deep integers pc ls deep' integers' rest t ready =
@@ -190,7 +190,7 @@ module _ (p : Program) (most : ℕ) (frame_slots : List ℕ) (behind : ℕ) (blo
       one (k ∷ []) base bs count below held = rest k base bs below held
       one (k ∷ l ∷ above) base bs count below held = absurd (omega (arith, count))
 
-  -- a truth value decides
+  -- a branch that a truth value decides
   pub branch_then : (q target : ℕ) (l : SourceLine) (ls : List SourceLine) (base : List Kind) (bs : List Bool) (deep : ℕ) (integers : List (ℕ × Kind)) (deep' : ℕ) (integers' : List (ℕ × Kind)) → slice_get p.instructions q ≡ Some (instr.Branch target) → frame_at p.frames (suc q) ≡ None → IsTarget p q target × IfSome (frame_at p.frames target) (λ f. IsCutBelow (record { kinds = base; bound = bs }) f) → AreBelow base (frame_kinds integers deep) → deep ≤ most → FlowsTo p most frame_slots (suc q) ls (record { kinds = base; bound = bs }) deep' integers' → FlowsTo p most frame_slots q (l ∷ ls) (record { kinds = kind.Bool ∷ base; bound = bs }) deep' integers'
   branch_then q target l ls base bs deep integers deep' integers' h none ways below room rest =
       let s : Shape = record { kinds = kind.Bool ∷ base; bound = bs } in
@@ -199,7 +199,7 @@ module _ (p : Program) (most : ℕ) (frame_slots : List ℕ) (behind : ℕ) (blo
       line_then p most frame_slots behind block q l ls s (record { kinds = base; bound = bs }) deep' integers'
       (plain_step p most frame_slots behind block q (instr.Branch target) s h none refl fit) rest
 
-  -- so many cells, of as many elements and a tail
+  -- the flow of n cells, of n elements and a tail
   pub cells_flow : (mode : Mode) (n q e deep : ℕ) (integers : List (ℕ × Kind)) (above base : List Kind) (bs : List Bool) → length above ≡ suc n → Stands p frame_slots behind q (cell_lines mode n) → q + n ≡ e → e ≤ behind → Stands p frame_slots behind e (exit_lines mode deep integers) → AreIntegers integers deep → AreBelow base (frame_kinds integers deep) → IsHeld bs → suc n + deep ≤ most → FlowsTo p most frame_slots q (cell_lines mode n ++ exit_lines mode deep integers) (record { kinds = above ++ base; bound = bs }) (suc deep) integers
   cells_flow mode n q e deep integers [] base bs count stands there within exit ints below held room = absurd (omega (arith, count))
   cells_flow mode zero q e deep integers (k ∷ l ∷ above) base bs count stands there within exit ints below held room = absurd (omega (arith, count))

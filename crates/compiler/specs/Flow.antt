@@ -1,4 +1,4 @@
--- Instructions that are typed one behind the other.
+-- Instructions that are typed one after the other.
 use Rattle.std.specs.Prelude.{ℕ, zero, suc, ◌≡◌, ◌≤◌, IsTrue, Some, length, slice_get}
 use Rattle.mcode.specs.Program.{Program, frame_at}
 use Rattle.mcode.specs.declared.instr.Instr.{Instr}
@@ -7,8 +7,8 @@ use Rattle.verifier_types.specs.Shape.{Shape}
 use Rattle.verifier_types.specs.Fit.{IsTargetFit, IsJumpFit}
 use Rattle.verifier.specs.Typing.{Begins}
 
--- the instruction at pc finds what it needs, leaves so many places at most, and may jump where it does; what stands
--- behind it is not looked at
+-- the instruction at pc finds what it needs, leaves at most `most` places, and may jump where it does; what comes after
+-- it is not examined
 pub record IsFit (p : Program) (most pc : ℕ) (i : Instr) (s : Shape) : Type 0 where
   pub target : IsTargetFit p pc i
   pub constant : IsConstantFit p i
@@ -18,7 +18,7 @@ pub record IsFit (p : Program) (most pc : ℕ) (i : Instr) (s : Shape) : Type 0 
   pub depth : length (left_shape p i s).kinds ≤ most
   pub jump : IsJumpFit p i s
 
--- from pc on so many instructions fit, the first in one state, and the next behind them begins in the other
+-- from pc on, n instructions fit, the first in state s, and the one after them begins in state t
 abbrev pub Flows : Program → ℕ → ℕ → Shape → ℕ → Shape → Type 0
 Flows p most pc s zero t = s ≡ t
 Flows p most pc s (suc n) t =

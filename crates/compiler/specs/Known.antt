@@ -8,27 +8,27 @@ use Rattle.mspec_syntax.specs.Rising.{rank_of}
 use Rattle.mspec_match.specs.Slots.{Binds, NeverHolds}
 use Rattle.compiler.specs.Reach.{at, Comes}
 
--- the variables of all clauses, whose slots these are, and those of one of them
+-- the variables of all clauses, in the order of their slots, and those of one clause
 pub record Names : Type 0 where
   pub all : List ℕ
   pub own : List ℕ
 
--- what a variable is bound to, where it is one of those that are known; another clause may have left a binding
+-- the value of a variable if it is one of those that are known; another clause may have left a binding
 abbrev pub seen_at : Names → Bindings → List ℕ → ℕ → Option Datum
 seen_at names slots known n =
     if is_among known n then binding slots (rank_of names.all n) else None
 
--- the same for all variables of the clause
+-- the values of all variables of the clause, each if it is one of those that are known
 abbrev pub own_slots : Names → Bindings → List ℕ → List (Option Datum)
 own_slots names slots known = map (seen_at names slots known) names.own
 
--- there is a slot for each variable, and those that are known are bound
+-- there is a slot for each variable, and the variables that are known are bound
 pub record AreKept (names : Names) (slots : Bindings) (known : List ℕ) : Type 0 where
   pub count : length slots ≡ length names.all
   pub held : (n : ℕ) → is_among known n ≡ true
       → (d : Datum) × (binding slots (rank_of names.all n) ≡ Some d)
 
--- the run comes to pc with these places, where slots are bound as the claim asks
+-- the run comes to pc with this stack, and slots are bound as the claim requires
 pub record ComesBound (p : Program) (object : Datum) (names : Names) (from : State) (pc : ℕ)
     (base : List Datum) (slots : Bindings) (known now : List ℕ)
     (Claim : (ℕ → Option Datum) → Type 0) : Type 0 where
@@ -45,7 +45,7 @@ pub record ComesFailed (p : Program) (object : Datum) (names : Names) (from : St
   pub never : NeverHolds names.own (own_slots names slots known) Claim
   pub count : length slots_then ≡ length names.all
 
--- one or the other
+-- the run comes to pc with the claim satisfied, or to the clause's end with the claim impossible
 abbrev pub Decides : Program → Datum → Names → ℕ → State → ℕ → List Datum → Bindings
     → List ℕ → List ℕ → ((ℕ → Option Datum) → Type 0) → Type 0
 Decides p object names behind from pc base slots known now Claim =

@@ -8,13 +8,13 @@ use Rattle.mspec_meaning.specs.Meaning.{Means}
 use Rattle.verifier.specs.Typing.{IsDepth}
 use Rattle.compiler_clauses.specs.Clauses.{code_of}
 
--- what a specification means on an object, its code answers
+-- the code of a specification answers what the specification means for an object
 abbrev pub CodeAnswersAsMeant : Type 0
 CodeAnswersAsMeant =
     (spec : Specification) (o : Datum) (answer : Option Datum) → All IsSoundClause spec
     → IsWithinLimits spec → Means spec o answer → answer ≡ answer_of (code_of spec) o
 
--- at most eight instructions for each node, and one for the end
+-- the code has at most eight instructions for each node, and one for the end
 abbrev pub CodeIsShort : Type 0
 CodeIsShort =
     (spec : Specification) → All IsSoundClause spec

@@ -13,7 +13,7 @@ pub record AreMarked (p : Program) (vs : List ℕ) (bs : List Bool) (known : Lis
   pub count : length bs ≡ p.slots
   pub held : (n : ℕ) → is_among known n ≡ true → IsTrue (is_bound bs (rank_of vs n))
 
--- lines that are typed from a state on, and behind which these places are left and the slots of these variables bound
+-- lines that are typed from a state on; after them these places are left and the slots of these variables are bound
 pub record BindsTo (p : Program) (most : ℕ) (vs : List ℕ) (pc : ℕ) (ls : List SourceLine) (s : Shape)
     (ks : List Kind) (known : List ℕ) : Type 0 where
   pub bound : List Bool

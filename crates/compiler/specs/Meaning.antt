@@ -13,8 +13,8 @@ abbrev pub AreFramesInside : Program → Type 0
 AreFramesInside p =
     (n : ℕ) (f : Frame) → frame_at p.frames n ≡ Some f → n < length p.instructions
 
--- where each frame of a specification's code is at an instruction, as it is where the code is typed, the code has a run
--- on each object, which ends in what the specification means on it
+-- If each frame of a specification's code is at an instruction, as in typed code, the code has a run for each object.
+-- The run ends with what the specification means for the object.
 abbrev pub CodeRunsAsMeant : Type 0
 CodeRunsAsMeant =
     (spec : Specification) → All IsSoundClause spec → AreFramesInside (code_of spec) → (o : Datum)

@@ -1,4 +1,4 @@
--- Where a run comes.
+-- The states that a run comes to.
 use Rattle.std.specs.Prelude.{ℕ, zero, suc, ◌≡◌, List}
 use Rattle.term_core.specs.Datum.{Datum}
 use Rattle.mcode.specs.Machine.{Bindings, State, Outcome, step}
@@ -9,13 +9,13 @@ use Rattle.mcode.specs.Program.{Program}
 abbrev pub at : ℕ → List Datum → Bindings → State
 at pc stack slots = record { pc = pc; stack = stack; slots = slots }
 
--- after so many instructions from one state on the run stands in the other
+-- after n instructions from the first state, the run is in the second
 abbrev pub ComesIn : Program → Datum → ℕ → State → State → Type 0
 ComesIn p object zero s t = s ≡ t
 ComesIn p object (suc n) s t =
     (u : State) × (step p object s ≡ Goes u) × ComesIn p object n u t
 
--- after some number of instructions
+-- after some number of instructions from the first state, the run is in the second
 abbrev pub Comes : Program → Datum → State → State → Type 0
 Comes p object s t = (n : ℕ) × ComesIn p object n s t
 

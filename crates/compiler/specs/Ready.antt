@@ -9,7 +9,7 @@ use Rattle.verifier.specs.Typing.{Begins}
 use Rattle.compiler_assembly.specs.Line.{SourceLine}
 use Rattle.compiler.specs.Flow.{IsFit, Flows}
 
--- Code of which each frame is at an instruction, and a block in it: its slots are the code's, and behind it stands a
+-- Code in which each frame is at an instruction, and a block in it: its slots are the code's, and after it there is a
 -- frame of which nothing is known.
 pub record IsBlock (p : Program) (frame_slots : List ℕ) (behind : ℕ) : Type 0 where
   pub inside : (n : ℕ) (f : Frame) → frame_at p.frames n ≡ Some f → n < length p.instructions
@@ -17,20 +17,20 @@ pub record IsBlock (p : Program) (frame_slots : List ℕ) (behind : ℕ) : Type 
   pub framed : frame_at p.frames behind
       ≡ Some (record { pc = behind; depth = 0; places = []; slots = [] })
 
--- so many places, of which these are integers, and the block's slots are bound
+-- a state with `deep` places, of which these are integers, in which the block's slots are bound
 pub record IsReady (p : Program) (frame_slots : List ℕ) (s : Shape) (deep : ℕ)
     (integers : List (ℕ × Kind)) : Type 0 where
   pub kinds : AreBelow s.kinds (frame_kinds integers deep)
   pub count : length s.bound ≡ p.slots
   pub bound : All (λ slot. IsTrue (is_bound s.bound slot)) frame_slots
 
--- the instruction at pc fits, and behind it the next begins in the other state
+-- the instruction at pc fits in state s, and the one after it begins in state t
 abbrev pub Steps : Program → ℕ → ℕ → Shape → Shape → Type 0
 Steps p most pc s t =
     (i : Instr) × (slice_get p.instructions pc ≡ Some i) × IsFit p most pc i s
     × Begins p (falling_shape p i s) (frame_at p.frames (suc pc)) t
 
--- lines that are typed from a state on, and behind which so many places are ready
+-- lines that are typed from a state on; after them `deep` places are ready
 pub record FlowsTo (p : Program) (most : ℕ) (frame_slots : List ℕ) (pc : ℕ) (ls : List SourceLine)
     (s : Shape) (deep : ℕ) (integers : List (ℕ × Kind)) : Type 0 where
   pub state : Shape

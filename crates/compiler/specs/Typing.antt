@@ -6,7 +6,7 @@ use Rattle.verifier.specs.Typing.{IsTyped}
 use Rattle.compiler_assembly.specs.Assembled.{IsCode}
 use Rattle.compiler_clauses.specs.Clauses.{code_of}
 
--- what holds of the code of a specification: it is within the limits of code, and typed
+-- the code of a specification is within the limits of code, and typed
 pub record IsGoodCode (spec : Specification) : Type 0 where
   pub code : IsCode (code_of spec)
   pub typed : IsTyped (code_of spec)

@@ -17,7 +17,7 @@ use mspec_syntax::Spec;
 use std::alloc::{AllocError, Allocator};
 use verifier::{Fault, Verified, faulty_code_is_untyped, verify};
 
-/// That the code of a specification is within the limits of code, and typed.
+/// States that the code of a specification is within the limits of code, and typed.
 fn is_good<A: Allocator>(specification: &Spec<A>)
     ensures { IsGoodCode specification.now }
 {
@@ -25,7 +25,7 @@ fn is_good<A: Allocator>(specification: &Spec<A>)
     let _clauses = specification.clauses();
 }
 
-/// That the code of a specification answers what the specification means.
+/// States that the code of a specification answers what the specification means.
 fn answers_as_meant<A: Allocator>(specification: &Spec<A>)
     ensures runs { (object : Datum) → (answer : Option Datum) × (n : ℕ)
         × Means specification.now object answer × HasRun (code_of specification.now) object n answer }
@@ -38,7 +38,7 @@ fn answers_as_meant<A: Allocator>(specification: &Spec<A>)
     let _clauses = specification.clauses();
 }
 
-/// The code of a specification, which was not verified.
+/// Returns the code of a specification, not yet verified. Fails if an allocation fails.
 fn assembled<A: Allocator + Copy>(alloc: A, specification: &Spec<A>) -> Result<Code<A>, AllocError>
     ensures { IfOk result (λ code. code ≡ code_of specification.now) }
 {
@@ -55,9 +55,9 @@ fn assembled<A: Allocator + Copy>(alloc: A, specification: &Spec<A>) -> Result<C
     }
 }
 
-/// The code of a specification, verified: each run of it ends in what the specification means, and no other refusal
-/// exists than want of memory. Its slots are the variables of all clauses, by rising number; its constants stand once
-/// each, in order of first use.
+/// Returns the verified code of a specification. Each run of it ends with what the specification means for the object.
+/// Its slots are the variables of all clauses, in ascending order of their numbers; its constants occur once each, in
+/// order of first use. Fails only if an allocation fails.
 pub fn compile<A: Allocator + Copy>(
     alloc: A,
     specification: &Spec<A>,

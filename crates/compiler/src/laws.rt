@@ -5,7 +5,7 @@ use crate::meaning::code_runs_as_meant;
 use crate::typing::code_of_specifications_is_typed;
 use machine_bodies::runs_end_with_the_answer;
 
-/// What the evaluator answers, the code answers, on every object.
+/// For every object, the code answers what the specification means.
 pub fn compiled_code_answers_as_meant()
     ensures { CodeAnswersAsMeant }
 {

@@ -1,4 +1,4 @@
--- Code while it is assembled: what a line adds, and what is too much.
+-- Code while it is assembled: what a line adds, and what is refused.
 use Rattle.std.specs.Prelude.{ℕ, suc, ◌≡◌, ◌+◌, ◌<◌, ◌≤◌, ◌⊎◌, cond, Bool, true, false, Option, Some, None, List, [], ◌∷◌, ◌++◌, length, All}
 use Rattle.std.proofs.Common.{arith, get_or, reverse, refl, sym, ap, subst, ◌∙◌, inl, inr}
 use Rattle.std.proofs.lemmas.List.{reverse-append, append_assoc, append-nil, length-append, get_or_append_left}
@@ -56,7 +56,7 @@ front_length cs ds f = omega (arith, ap length f.all, length-append cs f.rest)
 
 -- ---- lists with something in their middle
 
--- programs of the same parts
+-- programs with equal parts are equal
 same_program : (slots : ℕ) (around : Around) {c c' : List Datum} {i i' : List Instr} {f f' : List Frame} → c ≡ c' → i ≡ i' → f ≡ f'
     → Prim.Path Program record { slots = slots; constants = c; instructions = i; frames = f; around = around } record { slots = slots; constants = c'; instructions = i'; frames = f'; around = around }
 same_program slots around c i f = λ k. record { slots = slots; constants = c k; instructions = i k; frames = f k; around = around }
@@ -78,7 +78,7 @@ rise_before number xs ys up i d inside =
 
 -- ---- a line
 
--- what a line adds
+-- the instruction and label that are added for a line are the line added
 pub line_added : (cs : List Datum) (p : Program) (cs' : List Datum) (p' : Program) (slots : List ℕ) (behind pc : ℕ) (l : SourceLine) (i : Instr) → cs' ≡ with_named cs (constant_of l.op)
     → ((all : List Datum) → IsFront cs' all → i ≡ instr_of all behind pc l.op) → p' ≡ with_labelled (with_instruction p i) slots (suc pc) l.label → IsLineAdded cs p cs' p' slots behind pc l
 unfolding with_lines
@@ -110,7 +110,7 @@ line_added cs p cs' p' slots behind pc l i named here grown ls bs =
     by (Some label) =
         same_program p.slots p.around refl instructions (append_assoc p.frames (frame_of slots (suc pc) label ∷ []) frames)
 
--- too many constants
+-- a line that would make too many constants is refused
 pub line_constants : (cs : List Datum) (p : Program) (slots : List ℕ) (behind pc : ℕ) (l : SourceLine) → most_parts < length (with_named cs (constant_of l.op)) → IsLineTooMuch cs p slots behind pc l
 unfolding with_lines
 line_constants cs p slots behind pc l many ls bs code =
@@ -118,7 +118,7 @@ line_constants cs p slots behind pc l many ls bs code =
     let all = block_constants (constants_from named ls) bs in
     omega (arith, many, code.program.constants, length-append p.constants all, front_length named all (later_front named ls bs))
 
--- a target out of range
+-- a line whose target is out of range is refused
 pub line_target : (cs : List Datum) (p : Program) (slots : List ℕ) (behind pc : ℕ) (l : SourceLine) → ((all : List Datum) → ¬ IsTargetInRange (instr_of all behind pc l.op)) → IsLineTooMuch cs p slots behind pc l
 unfolding with_lines
 line_target cs p slots behind pc l far ls bs code =
@@ -126,7 +126,7 @@ line_target cs p slots behind pc l far ls bs code =
     let rest = line_instructions all behind (suc pc) ls ++ block_instructions all behind bs in
     far all (all_middle IsTargetInRange p.instructions rest (instr_of all behind pc l.op) code.targets)
 
--- too many instructions
+-- a line that would make too many instructions is refused
 pub line_instruction : (cs : List Datum) (p : Program) (slots : List ℕ) (behind pc : ℕ) (l : SourceLine) → most_parts ≤ length p.instructions → IsLineTooMuch cs p slots behind pc l
 unfolding with_lines
 line_instruction cs p slots behind pc l many ls bs code =
@@ -134,7 +134,7 @@ line_instruction cs p slots behind pc l many ls bs code =
     let rest = line_instructions all behind (suc pc) ls ++ block_instructions all behind bs in
     omega (arith, many, code.program.instructions, length-append p.instructions (instr_of all behind pc l.op ∷ rest))
 
--- a frame that can't follow those before
+-- a frame that can't follow those before is either one too many or not the next
 frame_out : (fs : List Frame) (f : Frame) (rest : List Frame) → length (fs ++ f ∷ rest) ≤ most_parts → AreFrames (fs ++ f ∷ rest) → IsFrameTooMany fs f ⊎ (¬ IsNextFrame fs f) → ⊥
 frame_out fs f rest few are out =
     let here = all_middle IsFrame fs rest f are.each in
@@ -148,7 +148,7 @@ frame_out fs f rest few are out =
       | inr other ↦ other record { above = above; ordered = here.ordered }
     ]
 
--- a label whose frame can't follow
+-- a line whose label has a frame that can't follow is refused
 pub line_label : (cs : List Datum) (p : Program) (slots : List ℕ) (behind pc : ℕ) (l : SourceLine) (i : Instr) → IsLabelTooMuch (with_instruction p i) slots (suc pc) l.label → IsLineTooMuch cs p slots behind pc l
 unfolding with_lines
 line_label cs p slots behind pc l i out ls bs code =
@@ -160,7 +160,7 @@ line_label cs p slots behind pc l i out ls bs code =
     by (Some label) out few are =
         frame_out p.frames (frame_of slots (suc pc) label) (line_frames slots (suc pc) ls ++ block_frames behind bs) few are out
 
--- why a part is refused: no memory, or too many of its kind
+-- why a part is refused: out of memory, or too many of its kind
 pub part_refused : (count : ℕ) (fault : Fault) → IsPartRefused count fault → (fault ≡ Memory) ⊎ (most_parts ≤ count)
 part_refused count Memory h = inl refl
 part_refused count Limit h = inr h
@@ -168,22 +168,22 @@ part_refused count FrameOrder h = absurd h
 
 -- ---- a block
 
--- no line is left
+-- when no line of a block is left, the following blocks are next
 pub lines_end : (cs : List Datum) (p : Program) (slots : List ℕ) (behind : ℕ) (bs : List Block) → with_blocks cs p behind bs ≡ with_lines cs p slots behind behind [] bs
 unfolding with_lines with_blocks
 lines_end cs p slots behind bs = refl
 
--- the lines of a block
+-- a block begins with its lines
 pub lines_begin : (cs : List Datum) (p : Program) (behind pc : ℕ) (b : Block) (bs : List Block) → behind ≡ pc + length b.lines → with_lines cs p b.slots behind pc b.lines bs ≡ with_blocks cs p pc (b ∷ bs)
 unfolding with_lines with_blocks
 lines_begin cs p behind pc b bs is = ap (λ n. with_lines cs p b.slots n pc b.lines bs) is
 
--- as many instructions as lines
+-- there are as many instructions as lines
 pub line_count : (cs : List Datum) (behind pc : ℕ) (ls : List SourceLine) → length (line_instructions cs behind pc ls) ≡ length ls
 line_count cs behind pc [] = refl
 line_count cs behind pc (l ∷ ls) = ap suc (line_count cs behind (suc pc) ls)
 
--- too many lines
+-- a block that would make too many instructions is refused
 pub block_lines : (cs : List Datum) (p : Program) (pc : ℕ) (b : Block) → pc ≡ length p.instructions → most_parts < pc + length b.lines → IsBlockTooMuch cs p pc b
 unfolding with_blocks
 block_lines cs p pc b here many bs code =
@@ -193,7 +193,7 @@ block_lines cs p pc b here many bs code =
     let rest = block_instructions all behind bs in
     omega (arith, here, many, code.program.instructions, length-append p.instructions (lines ++ rest), length-append lines rest, line_count all behind pc b.lines)
 
--- where no line is left, the block is at its end
+-- when no line is left, the block is at its end
 pub lines_done : (cs : List Datum) (p : Program) (slots : List ℕ) (behind pc : ℕ) (ls : List SourceLine) (bs : List Block) → ls ≡ [] → pc + length ls ≡ behind → with_blocks cs p behind bs ≡ with_lines cs p slots behind pc ls bs
 lines_done cs p slots behind pc ls bs over fits =
     let here : behind ≡ pc = omega (arith, fits, ap length over) in
@@ -205,48 +205,48 @@ lines_done cs p slots behind pc ls bs over fits =
 pub last_first : {X : Type 0} (xs ys : List X) (x : X) → xs ≡ ys ++ x ∷ [] → reverse xs ≡ x ∷ reverse ys
 last_first xs ys x is = ap reverse is ∙ reverse-append ys (x ∷ [])
 
--- nothing is left
+-- if a list has no elements, neither has its reverse
 pub none_left : {X : Type 0} (xs : List X) (n : ℕ) → n ≡ length xs → n ≡ 0 → reverse xs ≡ []
 none_left [] n is over = refl
 none_left (x ∷ xs) n is over = absurd (omega (arith, is, over))
 
--- what isn't code by another name
+-- a program that is equal to one that isn't code isn't code
 pub no_code : {p q : Program} → p ≡ q → ¬ IsCode p → ¬ IsCode q
 no_code {p = p} {q = q} same out code = out (subst IsCode (sym same) code)
 
--- assembled code is seen from its main body
+-- finishing assembled code doesn't change it
 pub finished_assembled : (slots : ℕ) (bs : List Block) → finished (assembled slots bs) ≡ assembled slots bs
 unfolding assembled
 finished_assembled slots bs = refl
 
--- the code so far is the code, where nothing is left
+-- if nothing is left, the code so far is the code
 pub nothing_left : (p : Program) → p ≡ with_blocks [] p 0 []
 unfolding with_blocks
 nothing_left p =
     same_program p.slots p.around (sym (append-nil p.constants)) (sym (append-nil p.instructions)) (sym (append-nil p.frames))
 
--- one constant more
+-- one more constant is appended
 pub constant_moved : (d : Datum) (ds : List Datum) (p : Program) → with_blocks ds (with_constant p d) 0 [] ≡ with_blocks (d ∷ ds) p 0 []
 unfolding with_blocks
 constant_moved d ds p = same_program p.slots p.around (append_assoc p.constants (d ∷ []) ds) refl refl
 
--- too many constants
+-- too many constants make no code
 pub constant_out : (d : Datum) (ds : List Datum) (p : Program) → most_parts ≤ length p.constants → ¬ IsCode (with_blocks (d ∷ ds) p 0 [])
 unfolding with_blocks
 constant_out d ds p many code =
     omega (arith, many, code.program.constants, length-append p.constants (d ∷ ds))
 
--- the number behind the last instruction says nothing
+-- if no blocks are left, the number of the next instruction doesn't matter
 pub last_number : (cs : List Datum) (p : Program) (n : ℕ) → with_blocks cs p 0 [] ≡ with_blocks cs p n []
 unfolding with_blocks
 last_number cs p n = refl
 
--- the whole, from the beginning
+-- the code that is assembled from nothing is the whole code
 pub whole_is : (cs : List Datum) (p : Program) (slots : ℕ) (bs : List Block) → cs ≡ [] → p ≡ empty_program slots → with_blocks cs p 0 bs ≡ assembled slots bs
 unfolding with_blocks assembled
 whole_is cs p slots bs none empty = ap (λ q. with_blocks cs q 0 bs) empty ∙ ap (λ ds. with_blocks ds (empty_program slots) 0 bs) none
 
--- too many slots
+-- too many slots make no code
 pub slots_out : (slots : ℕ) (bs : List Block) → most_slots < slots → ¬ IsCode (assembled slots bs)
 unfolding assembled
 slots_out slots bs many code = omega (arith, many, code.program.slots)

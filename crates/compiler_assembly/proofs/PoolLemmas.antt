@@ -1,4 +1,4 @@
--- Constants, each once: where a term stands among them, and what others behind them leave as it was.
+-- Constants, each once: the position of a term among them, and what appending others leaves as it was.
 use Rattle.std.specs.Prelude.{ℕ, zero, suc, ◌≡◌, ◌+◌, ◌<◌, ◌≤◌, drop, cond, Bool, true, false, Option, Some, None, option_map, Result, Ok, Err, OnOk, IfOk, List, [], ◌∷◌, ◌++◌, length, slice_get, ◌-◌, take}
 use Rattle.std.proofs.Common.{arith, get_or, refl, sym, ap, subst, ◌∙◌}
 use Rattle.std.proofs.Math.Seq.{take-append_seam}
@@ -15,7 +15,7 @@ use Rattle.mcode.specs.declared.fault.Fault.{Fault}
 use Rattle.compiler_assembly.specs.Assembled.{number_of, with_term}
 use Rattle.compiler_assembly.specs.Pool.{place_of, place_from, few, IsFront, IsPool}
 
--- what is the same is equal
+-- terms that are the same are equal
 pub same_is : (c d : Datum) → is_same c d ≡ true → c ≡ d
 same_is c d h = by (datum_cmp c d) refl h
   where
@@ -28,7 +28,7 @@ same_is c d h = by (datum_cmp c d) refl h
 pub same_itself : (d : Datum) → is_same d d ≡ true
 same_itself d = ap is_eq (datum_cmp-same {a = d} {b = d} refl)
 
--- what is one more than nothing, or than a number
+-- the predecessor of a number that is a successor
 suc_some : (o : Option ℕ) (n : ℕ) → option_map suc o ≡ Some n → (m : ℕ) × (o ≡ Some m) × (n ≡ suc m)
 suc_some None n h = absurd (cc)
 suc_some (Some m) n h = let e : suc m ≡ n = cc in (m, refl, sym e)
@@ -37,7 +37,7 @@ suc_none : (o : Option ℕ) → option_map suc o ≡ None → o ≡ None
 suc_none None h = refl
 suc_none (Some m) h = absurd (cc)
 
--- a term that has a place stands there, and that is its number
+-- a term that has a position is there
 pub place_there : (cs : List Datum) (d : Datum) (n : ℕ) → place_of cs d ≡ Some n → slice_get cs n ≡ Some d
 place_there [] d n h = absurd (cc)
 place_there (c ∷ cs) d n h = by (is_same c d) refl h (place_there cs d)
@@ -60,7 +60,7 @@ place_number (c ∷ cs) d n h = by (is_same c d) h (place_number cs d)
         let more = suc_some (place_of cs d) n h in
         ap suc (again more.0 more.1) ∙ sym more.2
 
--- what has a place is there already
+-- adding a term that has a position changes nothing
 pub with_place : (cs : List Datum) (d : Datum) (n : ℕ) → place_of cs d ≡ Some n → with_term cs d ≡ cs
 with_place [] d n h = absurd (cc)
 with_place (c ∷ cs) d n h = by (is_same c d) h (with_place cs d)
@@ -69,7 +69,7 @@ with_place (c ∷ cs) d n h = by (is_same c d) h (with_place cs d)
     by true h again = refl
     by false h again = let more = suc_some (place_of cs d) n h in ap (λ xs. c ∷ xs) (again more.0 more.1)
 
--- what has none comes behind
+-- a term that has no position is appended
 pub with_none : (cs : List Datum) (d : Datum) → place_of cs d ≡ None → with_term cs d ≡ cs ++ d ∷ []
 with_none [] d h = refl
 with_none (c ∷ cs) d h = by (is_same c d) h (with_none cs d)
@@ -78,7 +78,7 @@ with_none (c ∷ cs) d h = by (is_same c d) h (with_none cs d)
     by true h again = absurd (cc)
     by false h again = ap (λ xs. c ∷ xs) (again (suc_none (place_of cs d) h))
 
--- a place stays, whatever comes behind
+-- appending constants doesn't change a position
 pub place_front : (cs rest : List Datum) (d : Datum) (n : ℕ) → place_of cs d ≡ Some n → place_of (cs ++ rest) d ≡ Some n
 place_front [] rest d n h = absurd (cc)
 place_front (c ∷ cs) rest d n h = by (is_same c d) h (place_front cs rest d)
@@ -92,7 +92,7 @@ place_front (c ∷ cs) rest d n h = by (is_same c d) h (place_front cs rest d)
 pub place_later : (cs ds : List Datum) (d : Datum) (n : ℕ) → IsFront cs ds → place_of cs d ≡ Some n → place_of ds d ≡ Some n
 place_later cs ds d n front h = subst (λ es. place_of es d ≡ Some n) (sym front.all) (place_front cs front.rest d n h)
 
--- where a term stands when another one was put behind
+-- the position of a term after another one was appended
 pub place_push : (cs : List Datum) (key d : Datum) → place_of cs key ≡ None → place_of (cs ++ key ∷ []) d ≡ cond (is_same key d) (Some (length cs)) (place_of cs d)
 place_push [] key d h = refl
 place_push (c ∷ cs) key d h = by (is_same c key) refl h (place_push cs key d)
@@ -112,26 +112,26 @@ place_push (c ∷ cs) key d h = by (is_same c key) refl h (place_push cs key d)
     by false e h again =
         after (is_same c d) (is_same key d) refl refl e (again (suc_none (place_of cs key) h))
 
--- the place of what was put behind
+-- the position of a term that was appended
 pub place_last : (cs : List Datum) (d : Datum) → place_of cs d ≡ None → place_of (cs ++ d ∷ []) d ≡ Some (length cs)
 place_last cs d h = place_push cs d d h ∙ ap (λ b. cond b (Some (length cs)) (place_of cs d)) (same_itself d)
 
--- a place is the number of the term, whatever comes behind
+-- a position is the number of the term, also after constants are appended
 pub number_later : (cs ds : List Datum) (d : Datum) (n : ℕ) → place_of cs d ≡ Some n → IsFront cs ds → n ≡ number_of ds d
 number_later cs ds d n h front = sym (place_number ds d n (place_later cs ds d n front h))
 
--- one more constant is found, beside more than a few
+-- if there are more than a few constants, one more is found after it is entered
 pub pool_more : (found found' : Datum → Option ℕ) (cs : List Datum) (key : Datum) (n : ℕ) → IsPool found cs → few < length cs → place_of cs key ≡ None → n ≡ length cs → suc (length cs) ≤ 65535 → ((d : Datum) → found' d ≡ cond (is_same key d) (Some n) (found d)) → IsPool found' (cs ++ key ∷ [])
 pool_more found found' cs key n pool many new is small entered = record {
   numbers = λ more d. entered d ∙ ap (λ m. cond (is_same key d) (Some m) (found d)) is ∙ ap (cond (is_same key d) (Some (length cs))) (pool.numbers many d) ∙ sym (place_push cs key d new);
   count = omega (arith, length-append cs (key ∷ []), small);
 }
 
--- the constants as before
+-- the constants are found as before if look-ups are as before
 pub pool_same : (found found' : Datum → Option ℕ) (cs : List Datum) → IsPool found cs → ((d : Datum) → found' d ≡ found d) → IsPool found' cs
 pool_same found found' cs pool same = record { numbers = λ more d. same d ∙ pool.numbers more d; count = pool.count }
 
--- a term behind so many others has their number, or one that stands behind it
+-- the position from n on is that of the n-th term, or one after it
 pub place_step : (xs : List Datum) (n m : ℕ) (x d : Datum) → n < length xs → x ≡ get_or xs n x → place_from (drop n xs) m d ≡ cond (is_same x d) (Some m) (place_from (drop (n + 1) xs) (m + 1) d)
 place_step xs n m x d inside is =
     rw (one n, one m) (go xs n x inside is)
@@ -152,16 +152,16 @@ place_shift (c ∷ cs) n d = by (is_same c d) (place_shift cs (suc n) d)
     by true more = refl
     by false more = more
 
--- the number of a term among all
+-- the position of a term among all
 pub place_first : (cs : List Datum) (d : Datum) → place_from cs 0 d ≡ place_of cs d
 place_first [] d = refl
 place_first (c ∷ cs) d = ap (cond (is_same c d) (Some 0)) (place_shift cs 0 d ∙ ap (option_map suc) (place_first cs d))
 
--- a constant that was there
+-- adding a constant that was there changes nothing
 pub found_terms : (cs : List Datum) (d : Datum) (n : ℕ) → Some n ≡ place_of cs d → cs ≡ with_term cs d
 found_terms cs d n h = sym (with_place cs d n (sym h))
 
--- what is known once a constant was put behind
+-- what is known after a constant was added
 pub record IsLast (cs cs' : List Datum) (d : Datum) (n : ℕ) : Type 0 where
   pub terms : cs' ≡ with_term cs d
   pub place : place_of cs' d ≡ Some n
@@ -172,7 +172,7 @@ last_of cs cs' d n new all is = record {
   place = ap (λ es. place_of es d) all ∙ place_last cs d new ∙ ap Some (sym is);
 }
 
--- so it is where it was added
+-- this is known if the constant was appended
 pub added : (cs cs' : List Datum) (d : Datum) (r : Result ℕ Fault) → place_of cs d ≡ None → OnOk r (cs' ≡ cs ++ d ∷ []) → IfOk r (λ n. n ≡ length cs) → IfOk r (λ n. IsLast cs cs' d n)
 added cs cs' d (Ok n) new all is = last_of cs cs' d n new all is
 added cs cs' d (Err fault) new all is = tt
@@ -196,21 +196,21 @@ before_last cs d = rw (length-append cs (d ∷ [])) (rw (one_less (length cs)) (
 pub with_longer : (cs : List Datum) (d : Datum) → place_of cs d ≡ None → length (with_term cs d) ≡ suc (length cs)
 with_longer cs d new = ap length (with_none cs d new) ∙ omega (arith, length-append cs (d ∷ []))
 
--- what is looked at has the number, where it is the term
+-- the term that is looked at has this number if it is the one searched for
 pub place_found : (xs : List Datum) (n : ℕ) (x d : Datum) → n < length xs → x ≡ get_or xs n x → is_same x d ≡ true → place_from (drop n xs) n d ≡ place_from xs 0 d → Some n ≡ place_of xs d
 place_found xs n x d inside is same left =
     sym (place_step xs n n x d inside is ∙ ap (λ b. cond b (Some n) (place_from (drop (n + 1) xs) (n + 1) d)) same) ∙ left ∙ place_first xs d
 
--- and none has it where nothing is left
+-- the term has no number if none is left to look at
 pub place_nowhere : (xs : List Datum) (n : ℕ) (d : Datum) → length xs ≤ n → place_from (drop n xs) n d ≡ place_from xs 0 d → None ≡ place_of xs d
 place_nowhere xs n d past left =
     sym (ap (λ ys. place_from ys n d) (drop_all n xs past)) ∙ left ∙ place_first xs d
 
--- where there are but a few, none has to be found
+-- if there are only a few constants, none has to be found by the map
 pub pool_few : (found : Datum → Option ℕ) (cs : List Datum) → length cs ≤ few → IsPool found cs
 pool_few found cs short = record { numbers = λ more d. absurd (omega (arith, more, short)); count = omega (arith, short) }
 
--- the last of a row stands behind the others
+-- the last of a list comes after the others
 last_split : (xs : List Datum) (n : ℕ) (x : Datum) → length xs ≡ n + 1 → x ≡ get_or xs n x → (xs ≡ take n xs ++ x ∷ []) × (length (take n xs) ≡ n) × (slice_get xs n ≡ Some x)
 last_split [] n x size is = absurd (omega (arith, size))
 last_split (y ∷ []) zero x size is = (ap (λ z. z ∷ []) (sym is), refl, ap Some (sym is))
@@ -226,7 +226,7 @@ pool_last found found' cs n x size small many is pool new entered =
     subst (IsPool found') (sym split.0)
     (pool_more found found' (take n cs) x n pool (omega (arith, many, split.1)) (new x split.2) (sym split.1) (omega (arith, split.1, size, small)) entered)
 
--- the last of a row is new where it is none of those before it
+-- the last of a list is new if it is none of those before it
 pub new_last : (front : List Datum) (x d : Datum) (n : ℕ) (xs : List Datum) → xs ≡ front ++ x ∷ [] → n ≡ length front → place_of front x ≡ None → slice_get xs n ≡ Some d → place_of (take n xs) d ≡ None
 new_last front x d n xs all is new at =
     let there = ap (λ m. slice_get (front ++ x ∷ []) m) (sym is) ∙ ap (λ ys. slice_get ys n) (sym all) ∙ at in

@@ -1,4 +1,4 @@
--- Assembled code: its lines stand where they say, its frames rise, and how many parts it has.
+-- Assembled code: its lines are where they belong, its frames are ascending, and how many parts it has.
 use Rattle.std.specs.Prelude.{ℕ, zero, suc, ◌≡◌, ◌+◌, ◌<◌, ◌≤◌, cond, Bool, true, false, Option, Some, None, option_map, IfSome, List, [], ◌∷◌, ◌++◌, length, slice_get, All}
 use Rattle.std.proofs.Common.{arith, refl, sym, ap, subst, ◌∙◌}
 use Rattle.std.proofs.lemmas.Bool.{eq-eqb, ne_eqb}
@@ -22,14 +22,14 @@ use Rattle.compiler_assembly.specs.declared.op.Op.TheVariants as op
 use Rattle.compiler_assembly.proofs.AssemblerLemmas.{front_trans, front_self, lines_front, blocks_front, line_count}
 use Rattle.compiler_assembly.proofs.PoolLemmas.{place_there, place_number, place_later, place_last, with_place, with_none}
 
--- ---- parts of lines that stand
+-- ---- parts of lines that are in code
 
--- the lines before others
+-- the lines before others are in the code
 pub stands_front : (p : Program) (slots : List ℕ) (behind pc : ℕ) (a b : List SourceLine) → Stands p slots behind pc (a ++ b) → Stands p slots behind pc a
 stands_front p slots behind pc [] b stand = tt
 stands_front p slots behind pc (l ∷ a) b stand = (stand.0, stands_front p slots behind (suc pc) a b stand.1)
 
--- the lines behind others
+-- the lines after others are in the code
 pub stands_back : (p : Program) (slots : List ℕ) (behind pc : ℕ) (a b : List SourceLine) → Stands p slots behind pc (a ++ b) → Stands p slots behind (pc + length a) b
 stands_back p slots behind pc [] b stand =
     let here : pc ≡ pc + 0 = omega arith in
@@ -40,7 +40,7 @@ stands_back p slots behind pc (l ∷ a) b stand =
 
 -- ---- constants
 
--- the constant that is named has a place
+-- the constant that is named has a position
 abbrev IsPlaced : List Datum → Option Datum → Type 0
 IsPlaced cs o = IfSome o (λ d. (n : ℕ) × (place_of cs d ≡ Some n))
 
@@ -71,7 +71,7 @@ label_number : (slots : List ℕ) (pc : ℕ) (l : SourceLabel) → (frame_of slo
 label_number slots pc (Inside depth integers) = refl
 label_number slots pc Clean = refl
 
--- the frame of a label that stands first
+-- the frame of a label that comes first is found
 first_found : (slots : List ℕ) (pc : ℕ) (l : SourceLabel) (fs : List Frame) → frame_at (frame_of slots pc l ∷ fs) pc ≡ Some (frame_of slots pc l)
 first_found slots pc l fs =
     ap (λ b. cond b (Some (frame_of slots pc l)) (frame_at fs pc)) (eq-eqb (frame_of slots pc l).pc pc (label_number slots pc l))
@@ -80,7 +80,7 @@ first_passed : (slots : List ℕ) (pc : ℕ) (l : SourceLabel) (fs : List Frame)
 first_passed slots pc l fs n other =
     ap (λ b. cond b (Some (frame_of slots pc l)) (frame_at fs n)) (ne_eqb (frame_of slots pc l).pc n (λ same. other (sym (label_number slots pc l) ∙ same)))
 
--- what is found at a label, and elsewhere
+-- the frame that is found at a label, and elsewhere
 label_found : (slots : List ℕ) (pc : ℕ) (l : Option SourceLabel) (fs gs : List Frame) → NoneUpTo pc (fs ++ gs) → frame_at (with_label slots pc l fs ++ gs) pc ≡ option_map (frame_of slots pc) l
 label_found slots pc None fs gs none = none pc (omega arith)
 label_found slots pc (Some l) fs gs none = first_found slots pc l (fs ++ gs)
@@ -89,7 +89,7 @@ label_passed : (slots : List ℕ) (pc : ℕ) (l : Option SourceLabel) (fs gs : L
 label_passed slots pc None fs gs n other = refl
 label_passed slots pc (Some l) fs gs n other = first_passed slots pc l (fs ++ gs) n other
 
--- frames of lines stand behind where the lines begin
+-- frames of lines have higher numbers than the line where they begin
 lines_none : (slots : List ℕ) (pc : ℕ) (ls : List SourceLine) (fs : List Frame) → NoneUpTo (pc + length ls) fs → NoneUpTo pc (line_frames slots pc ls ++ fs)
 lines_none slots pc [] fs none m low = none m (omega (arith, low))
 lines_none slots pc (l ∷ ls) fs none m low =
@@ -101,14 +101,14 @@ blocks_none pc [] = λ m low. refl
 blocks_none pc (b ∷ bs) =
     lines_none b.slots pc b.lines (block_frames (pc + length b.lines) bs) (blocks_none (pc + length b.lines) bs)
 
--- behind lines only the frames behind them are found
+-- after lines only the frames after them are found
 lines_passed : (slots : List ℕ) (pc : ℕ) (ls : List SourceLine) (fs : List Frame) (n : ℕ) → pc + length ls < n → frame_at (line_frames slots pc ls ++ fs) n ≡ frame_at fs n
 lines_passed slots pc [] fs n behind = refl
 lines_passed slots pc (l ∷ ls) fs n behind =
     label_passed slots (suc pc) l.label (line_frames slots (suc pc) ls) fs n (λ same. absurd (omega (arith, same, behind)))
     ∙ lines_passed slots (suc pc) ls fs n (omega (arith, behind))
 
--- ---- the lines stand
+-- ---- the lines are in the code
 
 get_behind : (xs ys : List Instr) (n i k : ℕ) → length xs ≡ n → k ≡ n + i → slice_get (xs ++ ys) k ≡ slice_get ys i
 get_behind [] ys n i k long is = let same : k ≡ i = omega (arith, long, is) in ap (slice_get ys) same
@@ -147,7 +147,7 @@ blocks_stand p pc (b ∷ bs) cs front here frames =
           (λ n above. frames n (omega (arith, above)) ∙ lines_passed b.slots pc b.lines (block_frames behind bs) n above),
     )
 
--- assembled code has each line at its place
+-- assembled code has each line where it belongs
 pub assembled_stands : AssembledStands
 unfolding assembled
 assembled_stands slots bs =
@@ -177,9 +177,9 @@ pub frames_all : (P : Frame → Type 0) (slots : ℕ) (bs : List Block) → AllB
 unfolding assembled
 frames_all P slots bs labels = all_blocks P 0 bs labels
 
--- ---- the frames rise
+-- ---- the frames are ascending
 
--- the numbers rise, the first above this one
+-- the numbers are ascending, and the first is above n
 abbrev AreAbove : ℕ → List Frame → Type 0
 AreAbove n [] = Unit {0}
 AreAbove n (f ∷ fs) = (n < f.pc) × AreAbove f.pc fs
@@ -213,7 +213,7 @@ rise_above n (f ∷ f' ∷ fs) above (suc k) d within =
     let later = rise_above f.pc (f' ∷ fs) above.1 k d (omega (arith, within)) in
     simp unary_clauses (simp unary_clauses at later)
 
--- the numbers of the frames rise
+-- the numbers of the frames are ascending
 pub frames_rise : (slots : ℕ) (bs : List Block) → Rise frame_number (assembled slots bs).frames
 unfolding assembled
 frames_rise slots bs = rise_above 0 (block_frames 0 bs) (above_blocks 0 bs)
@@ -224,7 +224,7 @@ label_count : (slots : List ℕ) (pc : ℕ) (l : Option SourceLabel) (fs : List 
 label_count slots pc None fs = omega arith
 label_count slots pc (Some l) fs = omega arith
 
--- at most a frame a line
+-- at most one frame per line
 pub line_frame_count : (slots : List ℕ) (pc : ℕ) (ls : List SourceLine) → length (line_frames slots pc ls) ≤ length ls
 line_frame_count slots pc [] = omega arith
 line_frame_count slots pc (l ∷ ls) =
@@ -246,7 +246,7 @@ block_count cs pc (b ∷ bs) =
     let behind = pc + length b.lines in
     omega (arith, length-append (line_instructions cs behind pc b.lines) (block_instructions cs behind bs), line_count cs behind pc b.lines, block_count cs behind bs)
 
--- an instruction a line
+-- one instruction per line
 pub instruction_count : (slots : ℕ) (bs : List Block) → length (assembled slots bs).instructions ≡ line_total bs
 unfolding assembled
 instruction_count slots bs = block_count (block_constants [] bs) 0 bs
@@ -273,7 +273,7 @@ block_constant_count cs [] = omega arith
 block_constant_count cs (b ∷ bs) =
     omega (arith, line_constant_count cs b.lines, block_constant_count (constants_from cs b.lines) bs)
 
--- at most a constant a line
+-- at most one constant per line
 pub constant_count : (slots : ℕ) (bs : List Block) → length (assembled slots bs).constants ≤ line_total bs
 unfolding assembled
 constant_count slots bs = omega (arith, block_constant_count [] bs)
@@ -323,12 +323,12 @@ blocks_plain cs pc (b ∷ bs) =
     let behind = pc + length b.lines in
     All-append IsPlain (line_instructions cs behind pc b.lines) (block_instructions cs behind bs) (lines_plain cs behind pc b.lines) (blocks_plain cs behind bs)
 
--- none is invoked or ended
+-- no instruction invokes or ends a routine
 pub all_plain : (slots : ℕ) (bs : List Block) → All IsPlain (assembled slots bs).instructions
 unfolding assembled
 all_plain slots bs = blocks_plain (block_constants [] bs) 0 bs
 
--- and none is there
+-- assembled code has no routines
 pub assembled_alone : (slots : ℕ) (bs : List Block) → (assembled slots bs).around ≡ alone
 unfolding assembled
 assembled_alone slots bs = refl
@@ -337,7 +337,7 @@ assembled_slots : (slots : ℕ) (bs : List Block) → (assembled slots bs).slots
 unfolding assembled
 assembled_slots slots bs = refl
 
--- few slots and lines, frames in order and targets in range make code
+-- if there are few enough slots and lines, frames are in order and targets are in range, assembled code is code
 pub assembled_is_code : (slots : ℕ) (bs : List Block) → slots ≤ most_slots → line_total bs ≤ most_parts → AllBlockLabels (λ s n l. IsFrame (frame_of s n l)) 0 bs → AllBlockTargets (λ t. t ≤ most_parts) 0 bs → IsCode (assembled slots bs)
 assembled_is_code slots bs few short labels targets = record {
   program = record {

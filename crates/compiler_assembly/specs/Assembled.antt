@@ -12,12 +12,12 @@ use Rattle.compiler_assembly.specs.declared.op.Op.TheVariants as op
 use Rattle.compiler_assembly.specs.declared.op.Target.{Target}
 use Rattle.compiler_assembly.specs.declared.op.Target.TheVariants as target
 
--- how many of these stand before the term, which is one of them
+-- the number of terms before the given one, which is one of them
 abbrev pub number_of : List Datum → Datum → ℕ
 number_of [] d = 0
 number_of (c ∷ cs) d = if is_same c d then 0 else suc (number_of cs d)
 
--- these constants and the term, where it is none of them
+-- these constants, with the term appended unless it is one of them
 abbrev pub with_term : List Datum → Datum → List Datum
 with_term [] d = d ∷ []
 with_term (c ∷ cs) d = if is_same c d then c ∷ cs else c ∷ with_term cs d
@@ -29,12 +29,12 @@ constant_of (op.Value d t) = Some d
 constant_of (op.MakeMap d t) = Some d
 constant_of o = None
 
--- these constants and the one that an instruction names
+-- these constants, with the one that an instruction names
 abbrev pub with_named : List Datum → Option Datum → List Datum
 with_named cs None = cs
 with_named cs (Some d) = with_term cs d
 
--- these constants and those that the lines name, each once, in order of first use
+-- these constants, followed by those that the lines name, each once, in order of first use
 abbrev pub constants_from : List Datum → List SourceLine → List Datum
 constants_from cs [] = cs
 constants_from cs (l ∷ ls) = constants_from (with_named cs (constant_of l.op)) ls
@@ -43,12 +43,12 @@ abbrev pub block_constants : List Datum → List Block → List Datum
 block_constants cs [] = cs
 block_constants cs (b ∷ bs) = block_constants (constants_from cs b.lines) bs
 
--- the number of the instruction to which the one at pc leads, in a block behind which this one stands
+-- the number of the instruction to which the one at pc leads; `behind` is the number of the instruction after its block
 abbrev pub resolved : ℕ → ℕ → Target → ℕ
 resolved behind pc target.Failing = behind
 resolved behind pc (target.Ahead n) = suc pc + n
 
--- the instruction at pc, in code with these constants
+-- the instruction at pc, in code with these constants; `behind` is the number of the instruction after its block
 abbrev pub instr_of : List Datum → ℕ → ℕ → SourceOp → Instr
 instr_of cs behind pc op.Load = instr.Load
 instr_of cs behind pc (op.Const d) = instr.Const (number_of cs d)
@@ -76,30 +76,30 @@ instr_of cs behind pc (op.MakeMap d t) = instr.MakeMap (number_of cs d) (resolve
 instr_of cs behind pc op.Answer = instr.Answer
 instr_of cs behind pc op.NoAnswer = instr.NoAnswer
 
--- the frame of a label at pc, in a block with these slots
+-- the frame of a label at pc, in a block with these bound slots
 abbrev pub frame_of : List ℕ → ℕ → SourceLabel → Frame
 frame_of slots pc (label.Inside depth integers) =
     record { pc = pc; depth = depth; places = integers; slots = slots }
 frame_of slots pc label.Clean = record { pc = pc; depth = 0; places = []; slots = [] }
 
--- the instructions of lines, of which the first stands at pc
+-- the instructions of lines, of which the first is at pc
 abbrev pub line_instructions : List Datum → ℕ → ℕ → List SourceLine → List Instr
 line_instructions cs behind pc [] = []
 line_instructions cs behind pc (l ∷ ls) =
     instr_of cs behind pc l.op ∷ line_instructions cs behind (suc pc) ls
 
--- a frame where there is a label, before others
+-- a list of frames, with one of the label at its front if there is a label
 abbrev pub with_label : List ℕ → ℕ → Option SourceLabel → List Frame → List Frame
 with_label slots pc None fs = fs
 with_label slots pc (Some l) fs = frame_of slots pc l ∷ fs
 
--- the frames of the labels, each at the instruction behind its line
+-- the frames of the labels, each at the instruction after its line
 abbrev pub line_frames : List ℕ → ℕ → List SourceLine → List Frame
 line_frames slots pc [] = []
 line_frames slots pc (l ∷ ls) =
     with_label slots (suc pc) l.label (line_frames slots (suc pc) ls)
 
--- the blocks, one behind the other
+-- the instructions and the frames of blocks, one after the other
 abbrev pub block_instructions : List Datum → ℕ → List Block → List Instr
 block_instructions cs pc [] = []
 block_instructions cs pc (b ∷ bs) =
@@ -111,8 +111,8 @@ block_frames pc [] = []
 block_frames pc (b ∷ bs) =
     line_frames b.slots pc b.lines ++ block_frames (pc + length b.lines) bs
 
--- The code of these blocks over so many slots: each constant once, in order of first use; each target the number of
--- the instruction that it leads to; a frame at each label.
+-- The code of these blocks over this number of slots: each constant once, in order of first use; each target as the
+-- number of the instruction to which it leads; a frame at each label.
 unfoldable pub assembled : ℕ → List Block → Program
 assembled slots bs =
     let constants = block_constants [] bs in
@@ -133,11 +133,11 @@ IsPlain instr.Return = ⊥
 IsPlain instr.Fail = ⊥
 IsPlain i = Unit {0}
 
--- an instruction of which the target is a number of an instruction that code may have
+-- the target of an instruction, if it has one, is a number that an instruction may have
 abbrev pub IsTargetInRange : Instr → Type 0
 IsTargetInRange i = IfSome (target_of i) (λ t. t ≤ most_parts)
 
--- what can be code: counts within their limits, frames in order, and each target in range
+-- a program that can be code: counts within their limits, frames in order, and each target in range
 pub record IsCode (p : Program) : Type 0 where
   pub program : IsProgram p
   pub targets : All IsTargetInRange p.instructions

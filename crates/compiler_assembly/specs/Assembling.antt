@@ -1,4 +1,4 @@
--- What code comes to while it is assembled.
+-- The code that results while it is assembled.
 use Rattle.std.specs.Prelude.{ℕ, suc, ◌≡◌, Option, Some, None, List, ◌∷◌, ◌++◌, ◌⊎◌}
 use Rattle.term_core.specs.Datum.{Datum}
 use Rattle.mcode.specs.Building.{with_frame, IsFrameTooMany, IsNextFrame}
@@ -10,7 +10,7 @@ use Rattle.compiler_assembly.specs.Line.{SourceOp, SourceLabel, SourceLine, Bloc
 use Rattle.compiler_assembly.specs.declared.op.Op.TheVariants as op
 use Rattle.compiler_assembly.specs.declared.op.Target.{Target}
 
--- where the instruction may jump
+-- the target to which an instruction may jump
 abbrev pub target_named : SourceOp → Option Target
 target_named (op.Tuple n t) = Some t
 target_named (op.Cons t) = Some t
@@ -56,8 +56,7 @@ instr_to cs to (op.MakeMap d t) = instr.MakeMap (number_of cs d) to
 instr_to cs to op.Answer = instr.Answer
 instr_to cs to op.NoAnswer = instr.NoAnswer
 
--- The code that these constants and this program become when these lines of a block follow from pc on, and these
--- blocks behind it.
+-- The code that these constants and this program become if these lines of a block follow from pc on, and these blocks after it.
 unfoldable pub with_lines : List Datum → Program → List ℕ → ℕ → ℕ → List SourceLine → List Block
     → Program
 with_lines cs p slots behind pc ls bs =
@@ -74,7 +73,7 @@ with_lines cs p slots behind pc ls bs =
       around = p.around;
     }
 
--- the same when these blocks follow from pc on
+-- the code that these constants and this program become if these blocks follow from pc on
 unfoldable pub with_blocks : List Datum → Program → ℕ → List Block → Program
 with_blocks cs p pc bs =
     let constants = block_constants cs bs in
@@ -90,43 +89,43 @@ with_blocks cs p pc bs =
       around = p.around;
     }
 
--- with the line, this became that: whatever follows, it becomes the same code
+-- `cs'` and `p'` are `cs` and `p` with the line added: whatever follows, they become the same code
 abbrev pub IsLineAdded : List Datum → Program → List Datum → Program → List ℕ → ℕ → ℕ → SourceLine → Type 0
 IsLineAdded cs p cs' p' slots behind pc l =
     (ls : List SourceLine) (bs : List Block)
     → with_lines cs' p' slots behind (suc pc) ls bs ≡ with_lines cs p slots behind pc (l ∷ ls) bs
 
--- with the line, whatever follows, it is no code
+-- with the line, whatever follows, the result is not code
 abbrev pub IsLineTooMuch : List Datum → Program → List ℕ → ℕ → ℕ → SourceLine → Type 0
 IsLineTooMuch cs p slots behind pc l =
     (ls : List SourceLine) (bs : List Block) → ¬ IsCode (with_lines cs p slots behind pc (l ∷ ls) bs)
 
--- the program with a frame at the label, where there is one
+-- the program, with a frame at the label if there is one
 abbrev pub with_labelled : Program → List ℕ → ℕ → Option SourceLabel → Program
 with_labelled p slots pc None = p
 with_labelled p slots pc (Some l) = with_frame p (frame_of slots pc l)
 
--- there is a label, of which the frame can't be put behind those that are there
+-- there is a label whose frame can't be appended to those that are there
 abbrev pub IsLabelTooMuch : Program → List ℕ → ℕ → Option SourceLabel → Type 0
 IsLabelTooMuch p slots pc None = ⊥
 IsLabelTooMuch p slots pc (Some l) =
     IsFrameTooMany p.frames (frame_of slots pc l) ⊎ (¬ IsNextFrame p.frames (frame_of slots pc l))
 
--- with the lines, which end their block, this became that: whatever follows, it becomes the same code
+-- `cs'` and `p'` are `cs` and `p` with the last lines of a block added: whatever follows, they become the same code
 abbrev pub AreLinesAdded : List Datum → Program → List Datum → Program → List ℕ → ℕ → ℕ → List SourceLine → Type 0
 AreLinesAdded cs p cs' p' slots behind pc ls =
     (bs : List Block) → with_blocks cs' p' behind bs ≡ with_lines cs p slots behind pc ls bs
 
--- with the lines, whatever follows, it is no code
+-- with the lines, whatever follows, the result is not code
 abbrev pub AreLinesTooMuch : List Datum → Program → List ℕ → ℕ → ℕ → List SourceLine → Type 0
 AreLinesTooMuch cs p slots behind pc ls =
     (bs : List Block) → ¬ IsCode (with_lines cs p slots behind pc ls bs)
 
--- with the block, this became that: whatever follows, it becomes the same code
+-- `cs'` and `p'` are `cs` and `p` with the block added: whatever follows, they become the same code
 abbrev pub IsBlockAdded : List Datum → Program → List Datum → Program → ℕ → ℕ → Block → Type 0
 IsBlockAdded cs p cs' p' pc behind b =
     (bs : List Block) → with_blocks cs' p' behind bs ≡ with_blocks cs p pc (b ∷ bs)
 
--- with the block, whatever follows, it is no code
+-- with the block, whatever follows, the result is not code
 abbrev pub IsBlockTooMuch : List Datum → Program → ℕ → Block → Type 0
 IsBlockTooMuch cs p pc b = (bs : List Block) → ¬ IsCode (with_blocks cs p pc (b ∷ bs))

@@ -15,24 +15,24 @@ SourceOp = Op Datum
 abbrev pub SourceLabel : Type 0
 SourceLabel = Label (List (ℕ × Kind))
 
--- an instruction with the label behind it
+-- an instruction with the label after it
 abbrev pub SourceLine : Type 0
 SourceLine = Line Datum (List (ℕ × Kind))
 
--- an instruction without a label behind it
+-- an instruction without a label after it
 abbrev pub plain : SourceOp → SourceLine
 plain o = record { op = o; label = None }
 
--- an instruction behind which jumps lead: with so many places, of which these are integers
+-- an instruction with a label after it, to which jumps lead: the stack has `depth` places, of which these are integers
 abbrev pub before_label : SourceOp → ℕ → List (ℕ × Kind) → SourceLine
 before_label o depth integers = record { op = o; label = Some (Inside depth integers) }
 
--- lines that fail as one, and the slots that are bound at the labels inside them
+-- lines that fail together, and the slots that are bound at the labels inside them
 pub record Block : Type 0 where
   pub slots : List ℕ
   pub lines : List SourceLine
 
--- how many lines blocks have
+-- the total number of lines of blocks
 abbrev pub line_total : List Block → ℕ
 line_total [] = 0
 line_total (b ∷ bs) = length b.lines + line_total bs

@@ -4,26 +4,26 @@ use Rattle.term_core.specs.Datum.{Datum}
 use Rattle.term_operand.specs.Order.{is_same}
 use Rattle.mcode.specs.Program.{most_parts}
 
--- the number of the term among these, where it is one of them
+-- the number of the term among these, if it is one of them
 abbrev pub place_of : List Datum → Datum → Option ℕ
 place_of [] d = None
 place_of (c ∷ cs) d = if is_same c d then Some 0 else option_map suc (place_of cs d)
 
--- the same, where the first of these has this number
+-- the number of the term among these, if it is one of them, where the first has number n
 abbrev pub place_from : List Datum → ℕ → Datum → Option ℕ
 place_from [] n d = None
 place_from (c ∷ cs) n d = if is_same c d then Some n else place_from cs (suc n) d
 
--- so many constants are looked for one by one
+-- up to this many constants, a search goes through them one by one
 abbrev pub few : ℕ
 few = 8
 
--- these are the constants, and each is found by itself where there are more than a few
+-- these are the constants, and if there are more than a few, each is found by the map
 pub record IsPool (found : Datum → Option ℕ) (cs : List Datum) : Type 0 where
   pub numbers : few < length cs → (d : Datum) → found d ≡ place_of cs d
   pub count : length cs ≤ most_parts
 
--- the second constants are the first and others behind them
+-- the second list of constants is the first with others appended
 pub record IsFront (cs ds : List Datum) : Type 0 where
   pub rest : List Datum
   pub all : ds ≡ cs ++ rest

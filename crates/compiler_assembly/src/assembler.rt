@@ -1,4 +1,4 @@
-//! Code out of blocks of lines.
+//! Assembling code from blocks of lines.
 ghost use Rattle.std.specs.Prelude.{◌≡◌, ◌+◌, ◌<◌, ◌⊎◌, [], length, IfOk, IfErr, OnOk, MatchOption};
 ghost use Rattle.mcode.specs.Building.{with_constant, finished, IsPartRefused};
 ghost use Rattle.mcode.specs.Program.{most_parts};
@@ -16,7 +16,7 @@ use mcode::{Builder, Code, Fault, Frame, Places, Slots};
 use std::alloc::{AllocError, Allocator, Global};
 use term_core::Term;
 
-/// The frame of a label at an instruction, in a block with these slots.
+/// Returns the frame of a label at an instruction, in a block with these bound slots. Fails if an allocation fails.
 fn frame<A: Allocator + Copy>(
     alloc: A,
     slots: &Slots<A>,
@@ -44,7 +44,8 @@ fn frame<A: Allocator + Copy>(
     }
 }
 
-/// Adds the frame of a label at an instruction, where there is a label.
+/// Adds the frame of a label at an instruction, if there is a label. Fails if an allocation fails, or if the frame
+/// can't follow those that are there.
 fn add_label<A: Allocator + Copy>(
     alloc: A,
     builder: &mut Builder<A>,
@@ -65,8 +66,8 @@ fn add_label<A: Allocator + Copy>(
     builder.frame(frame).map_err(|refused| refused.fault)
 }
 
-/// The number of the instruction behind so many that begin at `pc`, where code may have so many.
-fn number_behind(pc: u16, count: usize) -> Option<u16>
+/// Returns the number of the instruction after `count` instructions that begin at `pc`, or `None` if it exceeds 65,535.
+fn number_following(pc: u16, count: usize) -> Option<u16>
     ensures { MatchOption result (most_parts < pc + count) (λ behind. behind ≡ pc + count) }
 {
     let behind = usize::from(pc).checked_add(count)?;
@@ -76,7 +77,7 @@ fn number_behind(pc: u16, count: usize) -> Option<u16>
     }
 }
 
-/// What was assembled so far: the constants, and the instructions and frames that name them.
+/// The code assembled so far: the constants, and the instructions and frames that name them.
 #[derive(Drop)]
 struct Assembler<A: Allocator = Global> {
     alloc: A,
@@ -92,7 +93,7 @@ impl<A: Allocator + Copy> Assembler<A> {
     ghost use Rattle.compiler_assembly.specs.Assembling.{with_blocks, IsLineAdded, IsLineTooMuch, AreLinesAdded, AreLinesTooMuch, IsBlockAdded, IsBlockTooMuch};
     ghost use Rattle.mcode.specs.declared.fault.Fault.TheVariants.{Memory};
 
-    /// Nothing, over so many slots.
+    /// Returns no code yet, over `slots` slots. Fails if there are too many slots.
     fn empty(alloc: A, slots: u16) -> Result<Self, Fault>
         ensures pool { IfOk result (λ assembler. assembler.pool ≡ []) }
         ensures builder { IfOk result (λ assembler. assembler.builder ≡ empty_program slots) }
@@ -106,7 +107,7 @@ impl<A: Allocator + Copy> Assembler<A> {
         })
     }
 
-    /// Adds a line of a block with these slots.
+    /// Adds a line of a block with these bound slots. Fails if an allocation fails, or if a limit of code is exceeded.
     fn add_line(
         &mut self,
         slots: &Slots<A>,
@@ -128,7 +129,8 @@ impl<A: Allocator + Copy> Assembler<A> {
         add_label(alloc, &mut self.builder, slots, place.pc + 1, label)
     }
 
-    /// Adds lines that stand at the end of a block with these slots.
+    /// Adds the last lines of a block with these bound slots. Fails if an allocation fails, or if a limit of code is
+    /// exceeded.
     fn add_lines(&mut self, slots: &Slots<A>, place: Place, lines: Lines<A>) -> Result<(), Fault>
         requires fits { place.pc + length lines ≡ place.behind }
         requires count { place.pc ≡ length self.old.builder.instructions }
@@ -147,7 +149,8 @@ impl<A: Allocator + Copy> Assembler<A> {
         Ok(())
     }
 
-    /// Adds a block of which the first line stands at `pc`, and answers the number of the instruction behind it.
+    /// Adds a block whose first line is at `pc`, and returns the number of the instruction after it. Fails if an
+    /// allocation fails, or if a limit of code is exceeded.
     fn add_block(&mut self, pc: u16, block: Block<A>) -> Result<u16, Fault>
         requires { pc ≡ length self.old.builder.instructions }
         ensures ok { IfOk result (λ behind. IsBlockAdded self.old.pool self.old.builder
@@ -157,14 +160,14 @@ impl<A: Allocator + Copy> Assembler<A> {
             ⊎ IsBlockTooMuch self.old.pool self.old.builder pc block) }
     {
         let (slots, lines) = block.into_parts();
-        let Some(behind) = number_behind(pc, lines.len()) else {
+        let Some(behind) = number_following(pc, lines.len()) else {
             return Err(Fault::Limit);
         };
         self.add_lines(&slots, Place { pc, behind }, lines)?;
         Ok(behind)
     }
 
-    /// Adds the blocks, one behind the other.
+    /// Adds the blocks, one after the other. Fails if an allocation fails, or if a limit of code is exceeded.
     fn add_blocks(&mut self, blocks: Vec<Block<A>, A>) -> Result<(), Fault>
         requires { self.old.builder.instructions ≡ [] }
         ensures ok { OnOk result (with_blocks self.new.pool self.new.builder 0 []
@@ -182,7 +185,7 @@ impl<A: Allocator + Copy> Assembler<A> {
     }
 }
 
-/// Adds a constant.
+/// Appends a constant to the code. Fails if an allocation fails or there are too many.
 fn add_constant<A: Allocator>(builder: &mut Builder<A>, term: Term<A>) -> Result<(), Fault>
     ensures ok { OnOk result (builder.new ≡ with_constant builder.old term) }
     ensures refused { IfErr result (λ fault. IsPartRefused (length builder.old.constants) fault) }
@@ -191,7 +194,8 @@ fn add_constant<A: Allocator>(builder: &mut Builder<A>, term: Term<A>) -> Result
     Ok(())
 }
 
-/// The code with these constants behind those that it has.
+/// Returns the code with these constants appended to those that it has. Fails if an allocation fails or there are too
+/// many.
 fn with_constants<A: Allocator>(
     builder: Builder<A>,
     terms: Vec<Term<A>, A>,
@@ -209,9 +213,9 @@ fn with_constants<A: Allocator>(
     Ok(builder.finish())
 }
 
-/// The code of these blocks, one behind the other, over so many slots: each constant once, in order of first use, each
-/// target the number of the instruction that it leads to, and a frame at each label. Refused is what would pass a limit
-/// of code, in counts or in a target, and what has frames out of order.
+/// Returns the code of these blocks, one after the other, over `slots` slots: each constant once, in order of first
+/// use, each target as the number of the instruction to which it leads, and a frame at each label. Fails if an
+/// allocation fails, if a count or target exceeds a limit of code, or if frames are out of order.
 pub fn assemble<A: Allocator + Copy>(
     alloc: A,
     slots: u16,

@@ -4,7 +4,7 @@ use mcode::Slots;
 use std::alloc::{Allocator, Global};
 use std::marker::Model;
 
-/// Lines that fail as one: where a target is `Failing`, execution goes on behind them.
+/// Lines that fail together: if a target is `Failing`, execution continues after them.
 #[derive(Drop)]
 pub struct Block<A: Allocator = Global> {
     slots: Slots<A>,
@@ -26,14 +26,14 @@ impl<A: Allocator> Model for Block<A> {
 impl<A: Allocator> Block<A> {
     ghost use Rattle.std.specs.Prelude.{◌≡◌};
 
-    /// These lines, of which the labels inside say that these slots are bound.
+    /// Makes a block of these lines, whose labels say that these slots are bound.
     pub fn new(slots: Slots<A>, lines: Lines<A>) -> Self
         ensures { result ≡ record { slots = slots; lines = lines } }
     {
         Block { slots, lines }
     }
 
-    /// The slots and the lines.
+    /// Returns the slots and the lines.
     pub(crate) fn into_parts(self) -> (Slots<A>, Lines<A>)
         ensures slots { result.0 ≡ self.slots }
         ensures lines { result.1 ≡ self.lines }

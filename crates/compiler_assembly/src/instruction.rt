@@ -1,4 +1,4 @@
-//! Symbolic instructions as instructions.
+//! Converting symbolic instructions to instructions.
 ghost use Rattle.std.specs.Prelude.{◌≡◌, ◌≤◌, ◌<◌, ◌⊎◌, List, length, MatchOption, IfOk, IfErr, OnOk};
 ghost use Rattle.compiler_assembly.specs.Assembled.{constant_of, with_named, resolved, instr_of, IsTargetInRange};
 ghost use Rattle.compiler_assembly.specs.Assembling.{instr_to};
@@ -13,16 +13,16 @@ use mcode::{Fault, Instr};
 use std::alloc::Allocator;
 use term_core::Term;
 
-/// Where an instruction stands.
+/// The position of an instruction.
 #[derive(Clone, Copy)]
 pub(crate) struct Place {
     /// Its number.
     pub(crate) pc: u16,
-    /// The number of the instruction behind its block.
+    /// The number of the instruction after its block.
     pub(crate) behind: u16,
 }
 
-/// The number of the instruction to which the one at a place leads, where code may have so many.
+/// Returns the number of the instruction to which the one at a place leads, or `None` if it exceeds 65,535.
 fn resolve(place: Place, target: Target) -> Option<u16>
     ensures { let number = resolved place.behind place.pc target in
         MatchOption result (most_parts < number) (λ to. to ≡ number) }
@@ -33,8 +33,8 @@ fn resolve(place: Place, target: Target) -> Option<u16>
     }
 }
 
-/// The instruction that jumps to this number. Its constant goes into the pool, and it is right whatever constants
-/// follow.
+/// Returns the instruction that jumps to the number `otherwise`. Adds its constant to the pool; the instruction stays
+/// right if constants are appended later. Fails if an allocation fails or there are too many constants.
 fn instruction_to<A: Allocator + Copy>(
     pool: &mut Pool<A>,
     op: Op<Term<A>>,
@@ -91,7 +91,8 @@ fn instruction_to<A: Allocator + Copy>(
     Ok(instr)
 }
 
-/// The instruction at a place. Its constant goes into the pool, and it is right whatever constants follow.
+/// Returns the instruction at a place. Adds its constant to the pool; the instruction stays right if constants are
+/// appended later. Fails if an allocation fails, there are too many constants, or the target is out of range.
 pub(crate) fn instruction<A: Allocator + Copy>(
     pool: &mut Pool<A>,
     op: Op<Term<A>>,

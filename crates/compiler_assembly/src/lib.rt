@@ -1,14 +1,14 @@
-//! Symbolic code: instructions that name constants by themselves and say where they lead by how many
-//! lines are between, and how it becomes code.
+//! Symbolic code, and how it becomes code. Its instructions contain their constants, and give a target as the number of
+//! lines to skip.
 //!
-//! The one contract: `assemble` gives the code that `assembled` of `specs/Assembled.antt` says, with
-//! each constant once, in order of first use, and a frame for each label; it refuses for want of memory,
-//! and what is no code. By the law of `laws`, each line stands in it at its place (`specs/Stands.antt`).
+//! The one contract: `assemble` returns the code that `assembled` of `specs/Assembled.antt` says, with each constant
+//! once, in order of first use, and a frame for each label. It fails if an allocation fails, or if the result would not
+//! be code. By the law of `laws`, each line is at its position in the code (`specs/Stands.antt`).
 //!
-//! - `op`: symbolic instructions and where they lead; `line`: an instruction with the label behind it.
-//! - `lines`: rows of lines, which grow at their front; `block`: a row of lines that fails as one.
-//! - `pool`: constants, each once; `instruction`: symbolic instructions as instructions; `assembler`: code
-//!   out of blocks; `laws`: what assembled code meets.
+//! - `op`: symbolic instructions and their targets; `line`: an instruction with the label after it.
+//! - `lines`: lists of lines, which grow at the front; `block`: a list of lines that fail together.
+//! - `pool`: constants, each once; `instruction`: converting symbolic instructions; `assembler`: code from blocks;
+//!   `laws`: properties of assembled code.
 #![tactic(auto)]
 
 mod assembler;

@@ -1,4 +1,4 @@
-//! Rows of lines.
+//! Lists of lines.
 use crate::line::{Label, Line};
 use crate::op::Op;
 use mcode::Places;
@@ -6,7 +6,8 @@ use std::alloc::{AllocError, Allocator, Global};
 use std::marker::Model;
 use term_core::Term;
 
-/// A row of lines, which grows at its front: what an instruction leads to stands behind it, and is there first.
+/// A list of lines, which grows at the front: the lines to which an instruction leads come after it, and are there
+/// first.
 #[derive(Drop)]
 pub struct Lines<A: Allocator = Global> {
     reversed: Vec<Line<Term<A>, Places<A>>, A>,
@@ -28,7 +29,7 @@ impl<A: Allocator> Model for Lines<A> {
 impl<A: Allocator> Lines<A> {
     ghost use Rattle.std.specs.Prelude.{◌≡◌, ◌∷◌, [], length, OnOk, IfOk, MatchOption};
 
-    /// No line.
+    /// Returns an empty list of lines. It does not allocate.
     pub fn new(alloc: A) -> Self
     where
         A: Copy,
@@ -39,7 +40,7 @@ impl<A: Allocator> Lines<A> {
         }
     }
 
-    /// No line, with room for so many. An `Err` is want of memory.
+    /// Returns an empty list of lines, with room for `count`. Fails if an allocation fails.
     pub fn with_capacity(alloc: A, count: usize) -> Result<Self, AllocError>
     where
         A: Copy,
@@ -50,14 +51,14 @@ impl<A: Allocator> Lines<A> {
         })
     }
 
-    /// How many lines there are.
+    /// Returns the number of lines.
     pub fn len(&self) -> usize
         ensures { result ≡ length self.now }
     {
         self.reversed.len()
     }
 
-    /// Puts a line before the others.
+    /// Adds a line at the front. Fails if an allocation fails.
     pub fn prepend(
         &mut self,
         op: Op<Term<A>>,
@@ -71,7 +72,7 @@ impl<A: Allocator> Lines<A> {
         }
     }
 
-    /// Takes the first line away, where there is one.
+    /// Removes the first line and returns it, or returns `None` if there is none.
     pub(crate) fn pop_front(&mut self) -> Option<Line<Term<A>, Places<A>>>
         ensures { MatchOption result ((self.old ≡ []) × (self.new ≡ []))
             (λ line. self.old ≡ line ∷ self.new) }

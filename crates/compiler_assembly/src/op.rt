@@ -3,23 +3,23 @@ use prims_table::{Arithmetic, Function};
 use std::alloc::Allocator;
 use term_core::Term;
 
-/// Where an instruction leads otherwise.
+/// Where an instruction leads if it does not continue with the next one.
 #[derive(Clone, Copy, Debug, PartialEq, Eq)]
 pub enum Target {
-    /// To the instruction behind the block.
+    /// The instruction after the block.
     Failing,
-    /// Ahead, with so many instructions between.
+    /// Further ahead, after skipping that many instructions.
     Ahead(u16),
 }
 
-/// An instruction of the machine (`mcode::Instr`) that names its constant by itself, and its target by how far it is.
+/// An instruction of the machine (`mcode::Instr`) that contains its constant, and gives its target relative to itself.
 #[derive(Drop)]
 pub enum Op<C> {
     /// Pushes the object.
     Load,
     /// Pushes a constant.
     Const(C),
-    /// Pushes what a slot is bound to.
+    /// Pushes the value to which a slot is bound.
     Get(u8),
     /// Pops the top and binds a slot to it.
     Bind(u8),
@@ -27,39 +27,39 @@ pub enum Op<C> {
     Dup,
     /// Pops the top.
     Drop,
-    /// Jumps where the top is no tuple of this size.
+    /// Jumps if the top is not a tuple of this size.
     Tuple(u16, Target),
-    /// Pops a tuple and pushes the element at this place, counted from 1.
+    /// Pops a tuple and pushes the element at this position, counted from 1.
     Field(u16),
-    /// Jumps where the top is no list with elements.
+    /// Jumps if the top is not a list with elements.
     Cons(Target),
     /// Pops a list with elements and pushes its head.
     Head,
     /// Pops a list with elements and pushes its tail.
     Tail,
-    /// Jumps where the top is no map.
+    /// Jumps if the top is not a map.
     Map(Target),
-    /// Pops a map and pushes the value of a key, or jumps where the map has no such key.
+    /// Pops a map and pushes the value of a key, or jumps if the map has no such key.
     Value(C, Target),
-    /// Pops two terms, and jumps where they are not the same.
+    /// Pops two terms, and jumps if they are not the same.
     Equal(Target),
     /// Jumps.
     Jump(Target),
-    /// Pops so many arguments and pushes what the function gives, or jumps where the call fails.
+    /// Pops that many arguments and pushes the result of the function, or jumps if the call fails.
     Call(Function, u16, Target),
-    /// Jumps where the top is no integer.
+    /// Jumps if the top is not an integer.
     Int(Target),
-    /// Pops two integers and pushes what the function gives, or jumps where it fails.
+    /// Pops two integers and pushes the result of the function, or jumps if it fails.
     Arith(Arithmetic, Target),
-    /// Jumps where the top is neither `true` nor `false`.
+    /// Jumps if the top is neither `true` nor `false`.
     Bool(Target),
-    /// Pops `true` or `false`, and jumps where it is `false`.
+    /// Pops `true` or `false`, and jumps if it is `false`.
     Branch(Target),
-    /// Pops so many elements and pushes the tuple of them, or jumps where it passes a limit of terms.
+    /// Pops that many elements and pushes the tuple of them, or jumps if it exceeds a limit of terms.
     MakeTuple(u16, Target),
-    /// Pops a tail and below it a head, and pushes the list, or jumps where it passes a limit of terms.
+    /// Pops a tail and below it a head, and pushes the list, or jumps if it exceeds a limit of terms.
     MakeCons(Target),
-    /// Pops a value for each key of a list of keys and pushes the map, or jumps where it passes a limit of terms.
+    /// Pops a value for each key of a list of keys and pushes the map, or jumps if it exceeds a limit of terms.
     MakeMap(C, Target),
     /// Ends with the top as the answer.
     Answer,
@@ -71,7 +71,7 @@ impl<A: Allocator> Op<Term<A>> {
     ghost use Rattle.std.specs.Prelude.{◌≡◌};
     ghost use Rattle.compiler_assembly.specs.Assembling.{target_named};
 
-    /// Where the instruction may jump.
+    /// Returns the target to which the instruction may jump, or `None`.
     pub(crate) fn target(&self) -> Option<Target>
         ensures { result ≡ target_named self.now }
     {

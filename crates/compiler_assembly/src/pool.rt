@@ -14,10 +14,10 @@ use std::marker::Model;
 use std::mem;
 use term_core::Term;
 
-/// So many constants are looked for one by one, without a map.
+/// Up to this many constants are searched one by one, without a map.
 const FEW: usize = 8;
 
-/// Puts a term at the end.
+/// Appends a term. If an allocation fails, returns an error, and the terms are unchanged.
 fn push<A: Allocator>(terms: &mut Vec<Term<A>, A>, term: Term<A>) -> Result<(), AllocError>
     ensures ok { OnOk result (terms.new.items ≡ terms.old.items ++ term ∷ []) }
     ensures kept { OnErr result (terms.new.items ≡ terms.old.items) }
@@ -28,14 +28,14 @@ fn push<A: Allocator>(terms: &mut Vec<Term<A>, A>, term: Term<A>) -> Result<(), 
     }
 }
 
-/// Takes the last term away.
+/// Removes the last term.
 fn take_back<A: Allocator>(terms: &mut Vec<Term<A>, A>)
     ensures { terms.new.items ≡ take (length terms.old.items - 1) terms.old.items }
 {
     terms.pop();
 }
 
-/// Says that a term has this number.
+/// Enters the number of a term in the map. If an allocation fails, returns an error, and the map is unchanged.
 fn enter<A: Allocator + Copy>(
     numbers: &mut BTreeMap<Term<A>, u16, A>,
     term: &Term<A>,
@@ -53,7 +53,7 @@ fn enter<A: Allocator + Copy>(
     }
 }
 
-/// The number of a term among these, where it is one of them, by a look at one after the other.
+/// Returns the number of a term among these, or `None`. Searches them one by one.
 fn place_among<A: Allocator>(terms: &[Term<A>], term: &Term<A>) -> Option<u16>
     requires { length terms.now ≤ most_parts }
     ensures { result ≡ place_of terms.now term.now }
@@ -66,7 +66,7 @@ fn place_among<A: Allocator>(terms: &[Term<A>], term: &Term<A>) -> Option<u16>
     None
 }
 
-/// The numbers of these terms.
+/// Returns a map from these terms to their numbers. Fails if an allocation fails.
 fn numbered<A: Allocator + Copy>(
     alloc: A,
     terms: &[Term<A>],
@@ -81,8 +81,8 @@ fn numbered<A: Allocator + Copy>(
     Ok(numbers)
 }
 
-/// Enters the last of these terms, which has this number, where there are more than `FEW`, and all of them where it is
-/// the first such.
+/// Enters the last of these terms, whose number is `place`, if there are more than `FEW`. If it is the first beyond
+/// `FEW`, enters all of them. If an allocation fails, returns an error, and the map is unchanged.
 fn enter_last<A: Allocator + Copy>(
     alloc: A,
     numbers: &mut BTreeMap<Term<A>, u16, A>,
@@ -107,12 +107,12 @@ fn enter_last<A: Allocator + Copy>(
     Ok(())
 }
 
-/// Constants, each once, by their numbers in order of first use, at most `MAX_COUNT`. What is refused leaves them as
-/// they were.
+/// Constants, each once, by their numbers in order of first use, at most `MAX_COUNT`. An operation that fails leaves
+/// them as they were.
 #[derive(Drop)]
 pub(crate) struct Pool<A: Allocator = Global> {
     terms: Vec<Term<A>, A>,
-    /// The number of each, where there are more than `FEW`.
+    /// The number of each constant, if there are more than `FEW`.
     numbers: BTreeMap<Term<A>, u16, A>,
 }
 
@@ -142,7 +142,7 @@ impl<A: Allocator + Copy> Pool<A> {
     ghost use Rattle.mcode.specs.declared.fault.Fault.TheVariants.{Memory, Limit};
     ghost use Rattle.term_core.specs.Datum.{Datum};
 
-    /// No constant.
+    /// Returns a pool without constants.
     pub(crate) fn new(alloc: A) -> Self
         ensures { result ≡ [] }
     {
@@ -152,7 +152,7 @@ impl<A: Allocator + Copy> Pool<A> {
         }
     }
 
-    /// The number of a constant, where it is one of these.
+    /// Returns the number of a constant, or `None` if it is none of these.
     fn number(&self, term: &Term<A>) -> Option<u16>
         ensures { result ≡ place_of self.now term.now }
     {
@@ -162,7 +162,8 @@ impl<A: Allocator + Copy> Pool<A> {
         self.numbers.get(term).copied()
     }
 
-    /// Puts a constant that is none of these at the end, and answers its number.
+    /// Appends a constant that is none of these, and returns its number. Fails, with nothing changed, if an allocation
+    /// fails or there are `MAX_COUNT` already.
     fn add(&mut self, term: Term<A>) -> Result<u16, Fault>
         requires { place_of self.old term ≡ None }
         ensures terms { OnOk result (self.new ≡ self.old ++ term ∷ []) }
@@ -187,7 +188,8 @@ impl<A: Allocator + Copy> Pool<A> {
         Ok(number)
     }
 
-    /// The number of a constant, which is put at the end where it is none of these.
+    /// Returns the number of a constant, which is appended if it is none of these. Fails, with nothing changed, if an
+    /// allocation fails or there would be more than `MAX_COUNT`.
     pub(crate) fn intern(&mut self, term: Term<A>) -> Result<u16, Fault>
         ensures terms { OnOk result (self.new ≡ with_term self.old term) }
         ensures number { IfOk result (λ number. number ≡ number_of self.new term) }
@@ -204,7 +206,7 @@ impl<A: Allocator + Copy> Pool<A> {
         self.add(term)
     }
 
-    /// The constants.
+    /// Returns the constants in the order of their numbers.
     pub(crate) fn into_terms(self) -> Vec<Term<A>, A>
         ensures { result.items ≡ self }
     {

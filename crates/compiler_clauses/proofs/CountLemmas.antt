@@ -1,4 +1,4 @@
--- How many instructions the code of a specification has, by its nodes.
+-- How many instructions the code of a specification has, in terms of its nodes.
 use Rattle.std.proofs.Common.{ℕ, suc, ◌+◌, ◌*◌, ◌≤◌, Bool, true, false, cond, Option, Some, None, option_map, List, [], ◌∷◌, ◌++◌, length, arith, length-append}
 use Rattle.std.specs.Prelude.{All, sum_by}
 use Rattle.std.proofs.lemmas.List.Elements.{All-head, All-tail}
@@ -40,7 +40,7 @@ module _ (vs : List ℕ) where
       by true = omega arith
       by false = omega arith
 
-  -- the lines of a tuple, of those of its elements
+  -- the number of lines of a tuple, given that of its elements
   tuple-length : (known : List ℕ) (ps : Patterns) (n : ℕ) → length (element_lines vs known 1 ps) ≤ 8 * n → length (pattern_lines vs known (tuple_of ps)) + 4 ≤ 8 * suc n
   tuple-length known ps n few =
       let elements = element_lines vs known 1 ps in
@@ -52,7 +52,7 @@ module _ (vs : List ℕ) where
             (omega arith),
       )
 
-  -- the lines of a cell, of those of its parts
+  -- the number of lines of a cell, given those of its parts
   cell-length : (known : List ℕ) (p q : Pattern) (n m : ℕ) → length (pattern_lines vs known p) + 4 ≤ 8 * n → length (pattern_lines vs (known ++ pattern_variables p) q) ≤ 8 * m + 2 → length (pattern_lines vs known (cell_of p q)) ≤ 8 * (n + m) + 2
   cell-length known p q n m first rest =
       let head = pattern_lines vs known p in
@@ -111,7 +111,7 @@ module _ (vs : List ℕ) where
           length-append (pattern_lines vs known p) (field_lines vs (known ++ pattern_variables p) fs),
         )
 
-  -- the head of a clause
+  -- the number of lines of a clause's head
   pub head-length : (p : Pattern) → length (head_lines vs p) + 3 ≤ 8 * pattern_nodes p
   head-length (variable n) = omega (arith, (pattern-length (variable n) []).0)
   head-length anything = omega arith
@@ -153,7 +153,7 @@ module _ (site : Site) where
 
 -- ---- clauses
 
--- a clause has no more than eight lines for each node but itself
+-- a clause has at most eight lines for each of its nodes, minus eleven
 pub clause-length : (vs : List ℕ) (c : Clause) → IsSoundClause c → length (clause_block vs c).lines + 11 ≤ 8 * clause_nodes c
 clause-length vs c sound =
     let head = head_lines vs c.head in
@@ -168,7 +168,7 @@ clause-length vs c sound =
       length-append conditions body,
     )
 
--- how many instructions the code has
+-- the number of instructions of the code, at most eight per node and one for the end
 pub code_size : (spec : Specification) → All IsSoundClause spec → (vs : List ℕ) → line_total (blocks_of vs spec) ≤ 8 * specification_nodes spec + 1
 code_size [] sound vs = omega arith
 code_size (c ∷ cs) sound vs =

@@ -1,4 +1,4 @@
--- Each label of the code of a specification is a frame, which fits, at an instruction before the end.
+-- Each label of the code of a specification makes a frame, which fits, at an instruction before the end.
 use Rattle.std.proofs.Common.{◌≡◌, ◌∙◌, ℕ, zero, suc, ◌+◌, ◌<◌, ◌≤◌, ◌||◌, Bool, true, false, cond, inl, inr, Option, Some, None, option_map, List, [], ◌∷◌, ◌++◌, length, map, refl, sym, ap, arith, length-append}
 use Rattle.std.specs.Prelude.{All, IfSome, sum_by}
 use Rattle.std.proofs.lemmas.Bool.{cases_eq, eq-eqb, ne_eqb}
@@ -317,7 +317,7 @@ module _ (most : ℕ) where
       (good_conditions most (site_of vs c Condition) c.conditions (omega (arith, room)))
       (good_body most (site_of vs c Body) c.body (omega (arith, room))))
 
--- what holds of a good label behind each line
+-- what follows from a good label after each line holds of all labels
 all_labels : (P : List ℕ → ℕ → SourceLabel → Type 0) (most : ℕ) (slots : List ℕ) (ls : List SourceLine) (pc : ℕ) → AreGoodLabels most ls → ((n : ℕ) (l : SourceLabel) → pc < n → n ≤ pc + length ls → IsGoodLabel most l → P slots n l) → AllLabels P slots pc ls
 all_labels P most slots [] pc good says = tt
 all_labels P most slots (l ∷ ls) pc good says =
@@ -331,7 +331,7 @@ some_lines : (vs : List ℕ) (cs : Specification) → 0 < line_total (blocks_of 
 some_lines vs [] = omega arith
 some_lines vs (c ∷ cs) = omega (arith, some_lines vs cs)
 
--- what holds of each good label in a clause
+-- what follows from each good label in a clause holds at the labels of each clause
 each_label : (P : List ℕ → ℕ → SourceLabel → Type 0) (most : ℕ) (vs : List ℕ) (cs : Specification) (pc : ℕ) → specification_nodes cs ≤ most → All (λ c. AreAmong (clause_variables c) vs) cs → ((c : Clause) (n : ℕ) (l : SourceLabel) → AreAmong (clause_variables c) vs → 0 < n → n < pc + line_total (blocks_of vs cs) → IsGoodLabel most l → P (map (rank_of vs) (clause_variables c)) n l) → AllBlockLabels P pc (blocks_of vs cs)
 each_label P most vs [] pc room inside says = ((tt, tt), tt)
 each_label P most vs (c ∷ cs) pc room inside says =
@@ -346,7 +346,7 @@ each_label P most vs (c ∷ cs) pc room inside says =
           (λ d n l among above within good. says d n l among above (omega (arith, within)) good),
     )
 
--- what holds of each good label holds at each label of the code
+-- what follows from each good label holds at each label of the code
 at_labels : (P : List ℕ → ℕ → SourceLabel → Type 0) (most : ℕ) (spec : Specification) → specification_nodes spec ≤ most → ((c : Clause) (n : ℕ) (l : SourceLabel) → AreAmong (clause_variables c) (specification_variables spec) → 0 < n → n < line_total (blocks_of (specification_variables spec) spec) → IsGoodLabel most l → P (map (rank_of (specification_variables spec)) (clause_variables c)) n l) → AllBlockLabels P 0 (blocks_of (specification_variables spec) spec)
 at_labels P most spec room says =
     each_label P most (specification_variables spec) spec 0 room (variables_inside spec)
@@ -354,7 +354,7 @@ at_labels P most spec room says =
 
 -- ---- slots
 
--- a number behind the first of a rising list is above it
+-- a number after the first of an ascending list is above it
 above_first : (v n : ℕ) (vs : List ℕ) → Rises (v ∷ vs) → is_among vs n ≡ true → v < n
 above_first v n [] h among = absurd (cc)
 above_first v n (y ∷ ys) h among =
@@ -371,7 +371,7 @@ rank_here v n vs e = rw (eq-eqb v n e) refl
 rank_later : (v n : ℕ) (vs : List ℕ) → (v ≡ n → ⊥) → rank_of (v ∷ vs) n ≡ suc (rank_of vs n)
 rank_later v n vs differ = rw (ne_eqb v n differ) refl
 
--- of two numbers in a rising list the less has the lower rank
+-- of two numbers in an ascending list the lower has the lower rank
 rank_rises : (vs : List ℕ) (n m : ℕ) → Rises vs → is_among vs n ≡ true → is_among vs m ≡ true → n < m → rank_of vs n < rank_of vs m
 rank_rises [] n m h first second below = absurd (cc)
 rank_rises (v ∷ vs) n m h first second below =
@@ -433,7 +433,7 @@ good_frame most slots n Clean few rise good =
       ordered = record { places = no_rise place_number; telling = All-nil IsTelling; slots = no_rise (λ slot. slot) };
     }
 
--- how a frame fits in so many places and slots
+-- how a frame fits within given numbers of places and slots
 abbrev Fits : ℕ → ℕ → List ℕ → ℕ → SourceLabel → Type 0
 Fits most slot_count s n l =
     (0 < n) × ((frame_of s n l).depth ≤ most) × All (λ place. place_number place < (frame_of s n l).depth) (frame_of s n l).places × All (λ slot. slot < slot_count) (frame_of s n l).slots
@@ -446,7 +446,7 @@ good_fits most slot_count slots n Clean above within good =
 
 -- ---- the labels of the code
 
--- each is a frame
+-- each label makes a frame
 pub labels_are_frames : (most : ℕ) (spec : Specification) → most ≤ most_parts → specification_nodes spec ≤ most → AllBlockLabels (λ s n l. IsFrame (frame_of s n l)) 0 (blocks_of (specification_variables spec) spec)
 labels_are_frames most spec few room =
     let vs = specification_variables spec in
@@ -456,14 +456,14 @@ labels_are_frames most spec few room =
     (rise_by_place (map (rank_of vs) (clause_variables c)) (ranks_rise vs (clause_variables c) (Rises-rising (heads_variables spec)) (Rises-rising (pattern_variables c.head)) among))
     good)
 
--- each is behind an instruction, has no more places than there are nodes, and names places and slots that there are
+-- each label is after an instruction, has no more places than there are nodes, and names places and slots that exist
 pub labels_fit : (most : ℕ) (spec : Specification) → specification_nodes spec ≤ most → AllBlockLabels (λ s n l. (0 < n) × ((frame_of s n l).depth ≤ most) × All (λ place. place_number place < (frame_of s n l).depth) (frame_of s n l).places × All (λ slot. slot < length (specification_variables spec)) (frame_of s n l).slots) 0 (blocks_of (specification_variables spec) spec)
 labels_fit most spec room =
     let vs = specification_variables spec in
     at_labels (Fits most (length vs)) most spec room
     (λ c n l among above within good. good_fits most (length vs) (map (rank_of vs) (clause_variables c)) n l above (ranks_within vs (clause_variables c) among) good)
 
--- each is before an instruction
+-- each label is before an instruction
 pub labels_inside : (spec : Specification) → AllBlockLabels (λ s n l. n < line_total (blocks_of (specification_variables spec) spec)) 0 (blocks_of (specification_variables spec) spec)
 labels_inside spec =
     at_labels (λ s n l. n < line_total (blocks_of (specification_variables spec) spec)) (specification_nodes spec) spec (omega arith)

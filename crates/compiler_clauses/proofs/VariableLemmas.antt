@@ -32,13 +32,13 @@ one_among n m h =
       | inr differ ↦ absurd (let q = sym (ap (λ b. b || false) (ne_eqb n m differ)) ∙ h in cc)
     ]
 
--- a number of a list that isn't its first
+-- a number of a list that isn't its first is in the rest
 pub among_later : (v n : ℕ) (vs : List ℕ) → (v ≡ n → ⊥) → is_among (v ∷ vs) n ≡ true → is_among vs n ≡ true
 among_later v n vs differ among = sym (ap (λ b. b || is_among vs n) (ne_eqb v n differ)) ∙ among
 
 -- ---- clauses
 
--- the variables of a head, as they stand
+-- the variables of a head, unsorted, are among those of the specification
 pub head_inside : (vs : List ℕ) (c : Clause) → AreAmong (clause_variables c) vs → AreAmong (pattern_variables c.head) vs
 head_inside vs c inside n h = inside n (among-rising (pattern_variables c.head) n ∙ h)
 
@@ -50,7 +50,7 @@ heads_inside vs (c ∷ cs) inside =
     (λ n h. inside n (among_left head (heads_variables cs) n (sym (among-rising head n) ∙ h)))
     (heads_inside vs cs (λ n h. inside n (among_right head (heads_variables cs) n h)))
 
--- each clause's are among all
+-- each clause's variables are among those of the specification
 pub variables_inside : (spec : Specification) → All (λ c. AreAmong (clause_variables c) (specification_variables spec)) spec
 variables_inside spec =
     heads_inside (specification_variables spec) spec (λ n h. among-rising (heads_variables spec) n ∙ h)

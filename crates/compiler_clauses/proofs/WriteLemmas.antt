@@ -1,4 +1,4 @@
--- What of a specification is put so far.
+-- What of a specification was put so far.
 use Rattle.std.proofs.Common.{◌≡◌, ◌∙◌, ℕ, ◌+◌, ◌-◌, ◌<◌, ◌≤◌, Some, List, [], ◌∷◌, ◌++◌, length, get_or, slice_get, drop, refl, sym, ap, subst, arith, append_assoc}
 use Rattle.std.specs.Prelude.{All}
 use Rattle.std.proofs.lemmas.List.{drop_all}
@@ -32,13 +32,13 @@ body_put site es e ls old is put =
 
 -- ---- clauses
 
--- the slot of a variable of a clause
+-- the slot of a variable of a clause is below the limit
 pub slot_below : (slots bound : List ℕ) (i : ℕ) → length slots ≤ most_slots → AreAmong bound slots → i < length bound → rank_of slots (get_or bound i 0) < most_slots
 slot_below slots bound i few among below =
     let n = get_or bound i 0 in
     omega (arith, rank-below slots n (among n (among-place bound i n below refl)), few)
 
--- of a clause and its site, what its expressions need
+-- what the expressions of a clause require follows from the clause and its site
 pub parts_sound : (site : Site) (vs : List ℕ) (c : Clause) (mode : Mode) (es fs : List Expression) → site ≡ site_of vs c mode → es ≡ fs → All (IsSoundExpression (clause_variables c)) fs → All (IsSoundExpression site.bound) es
 parts_sound site vs c mode es fs is same sound = rw (is, same) sound
 
@@ -56,7 +56,7 @@ clause_writable spec cs slots i c named same below is sound limits =
     } in
     rw named (subst (IsWritableClause vs) (sym place) here)
 
--- one block more
+-- one more block
 pub blocks_step : (vs slots : List ℕ) (cs : Specification) (i : ℕ) (c : Clause) (block : Block) (bs now all : List Block) → i < length cs → c ≡ get_or cs i c → slots ≡ vs → block ≡ clause_block slots c → now ≡ bs ++ block ∷ [] → bs ++ blocks_of vs (drop i cs) ≡ all → now ++ blocks_of vs (drop (i + 1) cs) ≡ all
 blocks_step vs slots cs i c block bs now all below is named made put so =
     let own : block ≡ clause_block vs c = made ∙ ap (λ l. clause_block l c) named in
@@ -66,7 +66,7 @@ blocks_step vs slots cs i c block bs now all below is named made put so =
     ∙ ap (λ l. bs ++ blocks_of vs l) (sym (split_at cs i c below is))
     ∙ so
 
--- the last is the end
+-- the last block is the end
 pub blocks_all : (vs : List ℕ) (cs : Specification) (i : ℕ) (block : Block) (bs now all : List Block) → length cs ≤ i → block ≡ end_block → now ≡ bs ++ block ∷ [] → bs ++ blocks_of vs (drop i cs) ≡ all → now ≡ all
 blocks_all vs cs i block bs now all end made put so =
     put ∙ ap (λ b. bs ++ b ∷ []) made ∙ ap (λ l. bs ++ blocks_of vs l) (sym (drop_all i cs end)) ∙ so

@@ -15,7 +15,7 @@ use Rattle.compiler_assembly.specs.declared.op.Target.TheVariants.{Failing}
 use Rattle.compiler_expressions.specs.Expressions.{Site, lines_at}
 use Rattle.compiler_patterns.specs.Patterns.{head_lines}
 
--- the conditions, each of which has to be true
+-- the lines of the conditions, each of which must be true
 abbrev pub condition_lines : Site → List Expression → List SourceLine
 condition_lines site [] = []
 condition_lines site (e ∷ es) =
@@ -24,19 +24,19 @@ condition_lines site (e ∷ es) =
     ∷ plain (op.Branch Failing)
     ∷ condition_lines site es
 
--- The last expression of a body, which is the answer; the others have no lines. Behind it the next clause begins,
--- or the end.
+-- The lines of the last expression of a body, which is the answer; the others have no lines. The next clause or the end
+-- begins after them.
 abbrev pub body_lines : Site → List Expression → List SourceLine
 body_lines site [] = []
 body_lines site (e ∷ []) =
     lines_at site 0 [] e by_itself ++ record { op = op.Answer; label = Some Clean } ∷ []
 body_lines site (e ∷ f ∷ es) = body_lines site (f ∷ es)
 
--- where the conditions of a clause stand, or its body
+-- the context of the conditions of a clause, or of its body
 abbrev pub site_of : List ℕ → Clause → Mode → Site
 site_of vs c mode = record { slots = vs; bound = clause_variables c; mode = mode }
 
--- a clause, of which all labels say that the variables of its head are bound
+-- the block of a clause, all of whose labels say that the variables of its head are bound
 abbrev pub clause_block : List ℕ → Clause → Block
 clause_block vs c =
     record {
@@ -47,11 +47,11 @@ clause_block vs c =
           ++ body_lines (site_of vs c Body) c.body);
     }
 
--- the end, where no clause answers
+-- the block of the end, if no clause answers
 abbrev pub end_block : Block
 end_block = record { slots = []; lines = plain op.NoAnswer ∷ [] }
 
--- the clauses behind each other, and the end
+-- the blocks of the clauses, one after the other, and of the end
 abbrev pub blocks_of : List ℕ → Specification → List Block
 blocks_of vs [] = end_block ∷ []
 blocks_of vs (c ∷ cs) = clause_block vs c ∷ blocks_of vs cs

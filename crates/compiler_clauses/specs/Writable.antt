@@ -6,16 +6,16 @@ use Rattle.mspec_syntax.specs.Grammar.{is_among}
 use Rattle.mspec_syntax.specs.Sound.{IsSoundClause}
 use Rattle.mspec_syntax.specs.Specification.{Clause, clause_variables, clause_nodes, most_nodes}
 
--- each of the numbers of one list is in the other
+-- each number of the first list is in the second
 abbrev pub AreAmong : List ℕ → List ℕ → Type 0
 AreAmong ns vs = (n : ℕ) → is_among ns n ≡ true → is_among vs n ≡ true
 
--- how many nodes count for expressions under a head with these variables
+-- the number of nodes of expressions under a head with these variables
 abbrev pub node_total : List ℕ → List Expression → ℕ
 node_total bound es = sum_by (expression_nodes (length bound)) es
 
--- A clause of a specification with these variables: they can be numbered and the clause's are among them, all its
--- parts are sound, and it has few enough nodes.
+-- A clause of a specification with these variables: they can be numbered, the clause's are among them, all its parts
+-- are sound, and it has few enough nodes.
 pub record IsWritableClause (vs : List ℕ) (c : Clause) : Type 0 where
   pub count : length vs ≤ most_slots
   pub among : AreAmong (clause_variables c) vs

@@ -9,7 +9,7 @@ use mcode::Slots;
 use mspec_syntax::Spec;
 use std::alloc::{AllocError, Allocator};
 
-/// The end, where no clause answers.
+/// Returns the block of the end, if no clause answers. Fails if an allocation fails.
 fn write_end<A: Allocator + Copy>(alloc: A) -> Result<Block<A>, AllocError>
     ensures { IfOk result (λ block. block ≡ end_block) }
 {
@@ -18,8 +18,8 @@ fn write_end<A: Allocator + Copy>(alloc: A) -> Result<Block<A>, AllocError>
     Ok(Block::new(Slots::new(Vec::new(alloc)), lines))
 }
 
-/// The blocks of a specification's code, one for each clause and one for the end: assembled over as many slots as the
-/// specification has variables, they are its code. An `Err` is want of memory.
+/// Returns the blocks of a specification's code, one for each clause and one for the end. Assembled over as many slots
+/// as the specification has variables, they are its code. Fails if an allocation fails.
 pub fn write_blocks<A: Allocator + Copy>(
     alloc: A,
     specification: &Spec<A>,

@@ -14,10 +14,11 @@ use mcode::Slots;
 use mspec_syntax::{Clause, Mode, Variables};
 use std::alloc::{AllocError, Allocator};
 
-/// How many lines most clauses have at most.
+/// The number of lines that most clauses don't exceed.
 const MOST: usize = 32;
 
-/// The slots of the variables of a clause: their ranks among those of the specification.
+/// Returns the slots of the variables of a clause: their ranks among those of the specification. Fails if an allocation
+/// fails.
 fn write_slots<A: Allocator + Copy>(
     alloc: A,
     slots: &Variables<A>,
@@ -35,7 +36,7 @@ fn write_slots<A: Allocator + Copy>(
     Ok(Slots::new(ranks))
 }
 
-/// Where the conditions of a clause stand, or its body.
+/// Returns the context of the conditions of a clause, or of its body.
 fn site_of<'s, A: Allocator + Copy>(
     alloc: A,
     slots: &'s Variables<A>,
@@ -49,7 +50,7 @@ fn site_of<'s, A: Allocator + Copy>(
     Site::new(alloc, slots, clause.variables(), mode)
 }
 
-/// The lines of a clause, which are put from the last to the first.
+/// Returns the lines of a clause, which are put from the last to the first. Fails if an allocation fails.
 fn write_lines<A: Allocator + Copy>(
     alloc: A,
     slots: &Variables<A>,
@@ -67,7 +68,7 @@ fn write_lines<A: Allocator + Copy>(
     Ok(lines)
 }
 
-/// The block of a clause of a specification with these variables.
+/// Returns the block of a clause of a specification with these variables. Fails if an allocation fails.
 pub(crate) fn write_clause<A: Allocator + Copy>(
     alloc: A,
     slots: &Variables<A>,

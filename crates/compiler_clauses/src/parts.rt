@@ -12,7 +12,7 @@ use compiler_expressions::Site;
 use mspec_syntax::Expression;
 use std::alloc::{AllocError, Allocator};
 
-/// Puts the conditions of a clause before its body.
+/// Puts the lines of the conditions of a clause at the front of `lines`. Fails if an allocation fails.
 pub(crate) fn write_conditions<A: Allocator + Copy>(
     site: &Site<A>,
     conditions: &[Expression<A>],
@@ -31,7 +31,8 @@ pub(crate) fn write_conditions<A: Allocator + Copy>(
     Ok(())
 }
 
-/// Puts the body of a clause, of which the last expression is the answer, and has the lines.
+/// Puts the lines of the body of a clause at the front of `lines`: those of its last expression, which is the answer.
+/// Fails if an allocation fails.
 pub(crate) fn write_body<A: Allocator + Copy>(
     site: &Site<A>,
     body: &[Expression<A>],

@@ -18,7 +18,7 @@ use Rattle.compiler_assembly.specs.declared.op.Target.TheVariants.{Ahead}
 use Rattle.compiler_assembly.proofs.StandLemmas.{stands_back}
 use Rattle.compiler_expressions.specs.Expressions.{Site, failure, exit_lines, cell_count, none_true_lines, all_true_lines, lines_at, choice_lines}
 
--- how many elements of the value lie on the stack one by one
+-- how many elements of the value are separate places on the stack
 abbrev pub count_at : Expression → Position → ℕ
 count_at (new_cell e f) as_tail = suc (cell_count f)
 count_at e position = 0
@@ -56,13 +56,13 @@ module _ (p : Program) (frame_slots : List ℕ) (behind : ℕ) where
       let there : suc c ≡ x = omega (arith, end) in
       subst (λ n. Stands p frame_slots behind n (exit_lines Body deep integers)) there stands.1
 
-  -- where andalso has no truth value, its run goes on at the last of its lines
+  -- if an argument of andalso is no truth value in a body, the run continues at the last of its lines
   pub all_true_exit : (mode : Mode) (e deep : ℕ) (integers : List (ℕ × Kind)) → Stands p frame_slots behind e (all_true_lines mode deep integers) → Stands p frame_slots behind (suc (suc (suc e))) (exit_lines mode deep integers)
   all_true_exit Condition e deep integers stands = tt
   all_true_exit Body e deep integers stands = stands.1.1.1
 
   module _ (w : Site) where
-    -- so it does where orelse has none
+    -- if an argument of orelse is no truth value in a body, the run continues at the last of its lines
     pub choice_exit : (es : Expressions) (c x deep : ℕ) (integers : List (ℕ × Kind)) → Stands p frame_slots behind c (choice_lines w deep integers es) → suc (suc x) ≡ c + length (choice_lines w deep integers es) → Stands p frame_slots behind x (exit_lines w.mode deep integers)
     choice_exit no_expressions c x deep integers stands end = none_true_exit w.mode c x deep integers stands end
     choice_exit (expression e es) c x deep integers stands end =
@@ -80,7 +80,7 @@ module _ (p : Program) (frame_slots : List ℕ) (behind : ℕ) where
         let there : suc (suc (suc c)) ≡ c + 3 = omega arith in
         subst (λ n. frame_at p.frames n ≡ Some (record { pc = n; depth = suc deep; places = integers; slots = frame_slots })) there stands.1.1.0.frame
 
-    -- a frame with one more place stands behind orelse
+    -- after orelse there is a frame with one more place
     pub choice_framed : (es : Expressions) (c deep : ℕ) (integers : List (ℕ × Kind)) → Stands p frame_slots behind c (choice_lines w deep integers es) → frame_at p.frames (c + length (choice_lines w deep integers es)) ≡ Some (record { pc = c + length (choice_lines w deep integers es); depth = suc deep; places = integers; slots = frame_slots })
     choice_framed no_expressions c deep integers stands = none_true_framed w.mode c deep integers stands
     choice_framed (expression e es) c deep integers stands =

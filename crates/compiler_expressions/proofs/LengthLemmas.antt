@@ -1,4 +1,4 @@
--- How many lines an expression has, and how large it is, by its nodes.
+-- How many lines an expression has, and how large it is, in terms of its nodes.
 use Rattle.std.proofs.Common.{◌≡◌, true, ℕ, zero, suc, ◌+◌, ◌*◌, ◌≤◌, List, [], ◌∷◌, ◌++◌, map, length, refl, ap, arith, length-append}
 use Rattle.term_operand.specs.Operand.{boolean}
 use Rattle.term_core.specs.Datum.{cells}
@@ -54,7 +54,7 @@ bindings-length site d ints (n ∷ ns) =
 
 module _ (vars : ℕ) where
   mutual
-    -- how large an expression is, by itself and as a tail
+    -- how large an expression is, by itself and as a tail, in terms of its nodes
     pub size-nodes : (e : Expression) → (expression_size e + 1 ≤ 2 * expression_nodes vars e) × (expression_size e ≤ 2 * rest_nodes vars e + 1)
     size-nodes (bound n) = (omega arith, omega arith)
     size-nodes object = (omega arith, omega arith)
@@ -88,7 +88,7 @@ module _ (site : Site) where
   vars = length site.bound
 
   mutual
-    -- how many lines an expression has by itself, and as a tail with the cells that it asks for
+    -- how many lines an expression has by itself, and as a tail with the cells that it needs
     pub lines-length : (e : Expression) (d : ℕ) (ints : List (ℕ × Kind)) → IsSoundExpression site.bound e → (length (lines_at site d ints e by_itself) + 4 ≤ 8 * expression_nodes vars e) × (length (lines_at site d ints e as_tail) + cell_count e ≤ 8 * rest_nodes vars e + 1)
     lines-length (bound n) d ints h = (omega arith, omega arith)
     lines-length object d ints h = (omega arith, omega arith)

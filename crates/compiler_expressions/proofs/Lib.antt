@@ -5,3 +5,4 @@ pub mod LengthLemmas
 pub mod SoundLemmas
 pub mod EndLemmas
 pub mod ListedLemmas
+mod TextLemmas

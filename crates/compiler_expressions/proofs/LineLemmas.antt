@@ -1,4 +1,4 @@
--- Lines of parts, and what of them is writable.
+-- Lines of parts, and which of them are writable.
 use Rattle.std.proofs.Common.{◌≡◌, ◌==◌, Bool, true, false, ℕ, zero, suc, ◌+◌, ◌-◌, ◌<◌, ◌≤◌, Some, None, Option, Box, inl, inr, List, [], ◌∷◌, ◌++◌, map, length, get_or, drop, refl, sym, ◌∙◌, ap, subst, arith, drop-cons, add-one, length-append}
 use Rattle.std.proofs.lemmas.List.{drop_all, append_assoc}
 use Rattle.std.proofs.lemmas.Bool.{cases_eq}
@@ -21,7 +21,7 @@ use Rattle.compiler_assembly.specs.declared.op.Target.TheVariants.{Ahead}
 use Rattle.compiler_expressions.specs.Expressions.{Site, failure, exit_lines, cell_lines, cell_count, bindings_lines, lines_at, argument_lines, value_lines, test_lines, choice_lines, none_true_lines, and_lines, or_lines}
 use Rattle.compiler_expressions.specs.Writable.{IsNear, AreWritable, most_counted, most_slot}
 
--- what is left, from its first element
+-- what is left of a list begins with its first element
 pub split_at : {X : Type 0} (xs : List X) (i : ℕ) (x : X) → i < length xs → x ≡ get_or xs i x → drop i xs ≡ x ∷ drop (i + 1) xs
 split_at xs i x h e = drop-cons xs i x h ∙ ap (λ y. y ∷ drop (suc i) xs) (sym e) ∙ ap (λ j. x ∷ drop j xs) (sym (add-one i))
 
@@ -49,12 +49,12 @@ cells-near mode (suc n) i h below =
       | inr differ ↦ cells-near mode n i h.1 (omega arith)
     ]
 
--- one cell more
+-- one more cell
 pub cells-more : (mode : Mode) (n : ℕ) (ls old : List SourceLine) → ls ≡ cell_lines mode n ++ old → plain (op.MakeCons (failure mode (n + 1))) ∷ ls ≡ cell_lines mode (n + 1) ++ old
 cells-more mode n ls old h =
     rw (add-one n) (ap (λ l. plain (op.MakeCons (failure mode (suc n))) ∷ l) h)
 
--- the length of what was put before
+-- the length of what was put at the front
 pub length-before : (a b ls : List SourceLine) → ls ≡ a ++ b → length ls - length b ≡ length a
 length-before a b ls h = omega (arith, ap length h, length-append a b)
 
@@ -105,7 +105,7 @@ module _ (site : Site) (ints : List (ℕ × Kind)) where
   arguments-at es d i e h is w =
       subst (λ y. AreWritable (lines_at site (d + i) ints y by_itself)) (sym is) (arguments-get es d i e h w)
 
-  -- one argument more, of which the others are behind it
+  -- one more argument, with the others after it
   pub arguments-step : (es : List Expression) (d i j : ℕ) {e : Expression} {ls new : List SourceLine} (old : List SourceLine) → e ≡ get_or es i e → j ≡ i + 1 → i < length es → ls ≡ argument_lines site (d + j) ints (expressions_of (drop j es)) ++ old
       → new ≡ lines_at site (d + i) ints e by_itself ++ ls → new ≡ argument_lines site (d + i) ints (expressions_of (drop i es)) ++ old
   arguments-step es d i j {e} old is next h so n =
@@ -154,7 +154,7 @@ module _ (site : Site) (ints : List (ℕ × Kind)) where
       let q : d + 0 ≡ d = omega arith in
       h ∙ ap (λ j. value_lines site (d + j) ints (assignments_of (drop j ms)) ++ old) z ∙ ap (λ k. value_lines site k ints (assignments_of ms) ++ old) q
 
-  -- what an argument of andalso needs, before the lines of others
+  -- what is required of an argument of andalso, before the lines of the others
   pub record CanTest (d : ℕ) (e : Expression) (rest : List SourceLine) : Type 0 where
     pub own : AreWritable (lines_at site d ints e by_itself)
     pub failing : IsNear (failure site.mode (length rest + 5))
@@ -181,7 +181,7 @@ module _ (site : Site) (ints : List (ℕ × Kind)) where
   pub tests-none : (es : List Expression) (d : ℕ) (old : List SourceLine) → old ≡ test_lines site d ints (expressions_of (drop (length es) es)) ++ old
   tests-none es d old = ap (λ l. test_lines site d ints (expressions_of l) ++ old) (sym (drop_all (length es) es (omega arith)))
 
-  -- what an argument of orelse needs, before all other lines
+  -- what is required of an argument of orelse, before all other lines
   pub record CanChoose (d : ℕ) (e : Expression) (rest : List SourceLine) : Type 0 where
     pub own : AreWritable (lines_at site d ints e by_itself)
     pub failing : IsNear (failure site.mode (length rest + 2))
@@ -262,7 +262,7 @@ module _ (site : Site) (ints : List (ℕ × Kind)) where
       ap (λ l. own ++ l) (cells-tail es t (suc d) same ∙ ap (λ k. rest ++ lines_at site k ints t by_itself) q)
       ∙ sym (append_assoc own rest (lines_at site (d + suc (length es)) ints t by_itself))
 
-  -- a list's lines are those of its elements, of its tail and of its cells
+  -- a list's lines are those of its elements, its tail and its cells
   pub list-parts : {A : Type 0} (es : List Expression) (tail : Option (Box Expression A)) (d : ℕ) → 0 < length es → IsTailExpression tail
       → lines_at site d ints (new_cells es (tail_expression tail)) by_itself ≡ (argument_lines site d ints (expressions_of es) ++ lines_at site (d + length es) ints (tail_expression tail) by_itself) ++ (cell_lines site.mode (length es) ++ exit_lines site.mode d ints)
   list-parts [] tail d some h = absurd (omega arith)

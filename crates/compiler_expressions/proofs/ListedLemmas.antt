@@ -1,4 +1,4 @@
--- Keys that rise.
+-- Ascending keys.
 use Rattle.std.proofs.Common.{◌≡◌, true, List, [], ◌∷◌, refl, sym, ◌∙◌, ap, Some}
 use Rattle.std.specs.List.{zip}
 use Rattle.std.specs.Option.{option_map}
@@ -16,7 +16,7 @@ proper_cells : (ks : List Datum) → proper_elements (cells ks nil) ≡ Some ks
 proper_cells [] = refl
 proper_cells (k ∷ ks) = ap (option_map (λ ds. k ∷ ds)) (proper_cells ks)
 
--- the keys and values of a map, as they stand
+-- the keys and values of a map, paired again, are the map's entries
 zipped : (es : Entries) → entries_of (zip (entry_keys es) (entry_values es)) ≡ es
 zipped no_entries = refl
 zipped (entry k v es) = ap (entry k v) (zipped es)
@@ -37,11 +37,11 @@ rising_apart ks h =
     let pairs = are_apart-from_AreApart (keys_of (zip ks ks)) (apart_from_rising (zip ks ks) (rising_zip ks ks h)) in
     sym (ap are_apart (keys_zip ks)) ∙ pairs
 
--- the keys of a list of keys that rise
+-- a list of ascending keys has these keys
 pub keys_listed : (ks : List Datum) → AreKeysRising ks → map_keys (cells ks nil) ≡ Some ks
 keys_listed ks h = rw (proper_cells ks) (rw (rising_apart ks h) refl)
 
--- a map that is made of keys that rise
+-- a map can be made of ascending keys
 pub map_is_made : (es : Entries) → AreKeysRising (entry_keys es) → map_made (entry_keys es) (entry_values es) ≡ within_limits (table es)
 map_is_made es h =
     ap (λ ps. within_limits (table (entries_of ps))) (by_key-rising (zip (entry_keys es) (entry_values es)) (rising_zip (entry_keys es) (entry_values es) h))

@@ -64,7 +64,7 @@ module _ (site : Site) (sound : IsSoundSite site) where
       (tt, join (cell_lines site.mode (length (n ∷ ns))) (exit_lines site.mode d ints) (cells-writable site.mode (length (n ∷ ns)) few) (exit-writable site.mode d ints))
 
   mutual
-    -- by itself, and as a tail
+    -- the lines of a sound expression are writable, by itself and as a tail
     writable : (e : Expression) (d : ℕ) (ints : List (ℕ × Kind)) → IsSoundExpression site.bound e → (8 * expression_nodes vars e ≤ most_counted → AreWritable (lines_at site d ints e by_itself)) × (8 * rest_nodes vars e ≤ most_counted → AreWritable (lines_at site d ints e as_tail))
     writable (bound n) d ints h =
         let slot = rank-below site.slots n (sound.bound n h) in
@@ -170,7 +170,7 @@ module _ (site : Site) (sound : IsSoundSite site) where
         ((writable e d ints h.0).0 (omega (arith, room)))
         (near site.mode (length rest + 2) (omega (arith, room, few)), (omega arith, (tt, (omega (arith, room, few), choices-writable es d ints h.1 (omega (arith, room))))))
 
-  -- a sound expression can be written where its nodes have room
+  -- a sound expression can be written if there is room for its nodes
   pub sound-written : (d : ℕ) (ints : List (ℕ × Kind)) (e : Expression) → IsSoundExpression site.bound e → d + 8 * expression_nodes vars e ≤ most_counted → CanBeWritten site d ints e
   sound-written d ints e h room =
       record { room = omega (arith, room, (size-nodes vars e).0); lines = (writable e d ints h).0 (omega (arith, room)) }

@@ -1,4 +1,4 @@
--- What the lines of each kind of expression need, and what they are made of.
+-- What the lines of each kind of expression require, and of what they consist.
 use Rattle.std.proofs.Common.{◌≡◌, ℕ, suc, ◌+◌, ◌-◌, ◌<◌, ◌≤◌, ◌≢◌, true, Option, Box, List, [], ◌∷◌, ◌++◌, length, get_or, drop, refl, sym, ◌∙◌, ap, subst, arith, length-append}
 use Rattle.std.proofs.lemmas.List.{append_assoc, get_or_default}
 use Rattle.term_operand.specs.Operand.{boolean}
@@ -24,7 +24,7 @@ use Rattle.compiler_expressions.specs.Writable.{IsNear, AreWritable, CanBeWritte
 use Rattle.mspec_syntax.proofs.ExpressionSizes.{size-at, assignments-at, count-length, length-size, new_cells-size, size-some}
 use Rattle.compiler_expressions.proofs.LineLemmas.{writable-left, writable-right, arguments-at, values-at, CanTest, tests-at, tests-step, CanChoose, choices-at, choices-step, list-parts, length-before}
 
--- lines behind which a line stands and an exit
+-- lines followed by a line and an exit
 behind-exit : (a : List SourceLine) (l : SourceLine) (exit old ls : List SourceLine) → ls ≡ exit ++ old → a ++ l ∷ ls ≡ (a ++ l ∷ exit) ++ old
 behind-exit a l exit old ls h = ap (λ x. a ++ l ∷ x) h ∙ sym (append_assoc a (l ∷ exit) old)
 
@@ -41,7 +41,7 @@ two (x ∷ y ∷ []) a b h p q = ap (λ e. expression e (expression y no_express
 two (x ∷ y ∷ z ∷ es) a b h p q = absurd (omega arith)
 
 module _ {site : Site} {d : ℕ} {ints : List (ℕ × Kind)} where
-  -- an expression that is known by its parts
+  -- an expression that is equal to its parts put together can be written if these can
   pub written-of : {e e' : Expression} → e' ≡ e → CanBeWritten site d ints e → CanBeWritten site d ints e'
   written-of same can = subst (CanBeWritten site d ints) (sym same) can
 
@@ -49,7 +49,7 @@ module _ {site : Site} {d : ℕ} {ints : List (ℕ × Kind)} where
   lines-of old same can h = h ∙ ap (λ x. lines_at site d ints x by_itself ++ old) same
 
 module _ (site : Site) (d : ℕ) (ints : List (ℕ × Kind)) where
-  -- an argument is smaller, and can be written where all can
+  -- an argument is smaller than the expression, and can be written if all arguments can
   pub argument-written : (es : List Expression) (i : ℕ) {e : Expression} → e ≡ get_or es i e → i < length es → d + expressions_size (expressions_of es) ≤ most_counted → AreWritable (argument_lines site d ints (expressions_of es)) → (expression_size e < expressions_size (expressions_of es)) × CanBeWritten site (d + i) ints e
   argument-written es i {e} is h room w =
       (omega (arith, size-at es i e h is), record { room = omega (arith, size-at es i e h is); lines = arguments-at site ints es d i e h is w })
@@ -236,7 +236,7 @@ module _ (site : Site) (d : ℕ) (ints : List (ℕ × Kind)) where
   arithmetic-needs f es a b h p q can =
       computes f a b (subst (λ x. CanBeWritten site d ints (call (prim.Arithmetic f) x)) (two es a b h p q) can)
 
-  -- the second argument's needs, whatever the first
+  -- what the second argument requires, whatever the first is
   pub second-needs : (f : Arithmetic) (es : List Expression) {b : Expression} → length es ≡ 2 → b ≡ get_or es 1 b → CanBeWritten site d ints (call (prim.Arithmetic f) (expressions_of es)) → CanCompute (get_or es 0 object) b
   second-needs f es {b} h q can =
       let a = get_or es 0 object in
@@ -269,14 +269,14 @@ module _ (site : Site) (d : ℕ) (ints : List (ℕ × Kind)) where
       ∙ ap (λ x. x ++ old) (sym (append_assoc first (test ∷ (second ++ last)) exit))
       ∙ ap (λ x. lines_at site d ints (call (prim.Arithmetic f) x) by_itself ++ old) (sym (two es a b h p q))
 
-  -- other than two arguments have no lines
+  -- a call with other than two arguments has no lines
   pub arithmetic-none : (f : Arithmetic) (es : List Expression) (old : List SourceLine) → length es ≢ 2 → old ≡ lines_at site d ints (call (prim.Arithmetic f) (expressions_of es)) by_itself ++ old
   arithmetic-none f [] old h = refl
   arithmetic-none f (a ∷ []) old h = refl
   arithmetic-none f (a ∷ b ∷ []) old h = absurd (h refl)
   arithmetic-none f (a ∷ b ∷ c ∷ es) old h = refl
 
-  -- the second argument stands above an integer
+  -- the second argument is above an integer
   pub second-written : {l : List (ℕ × Kind)} {e : Expression} → l ≡ ints ++ (d, kind.Int) ∷ [] → CanBeWritten site (suc d) (ints ++ (d, kind.Int) ∷ []) e → CanBeWritten site (d + 1) l e
   second-written {l} {e} is can =
       let q : suc d ≡ d + 1 = omega arith in

@@ -1,5 +1,5 @@
--- The code of expressions: the value is pushed. Where there is none in a condition, the clause fails; in a body
--- 'EXIT' is pushed in its place.
+-- The code of expressions: the value is pushed. If there is no value, the clause fails in a condition; in a body 'EXIT'
+-- is pushed instead.
 use Rattle.std.specs.Prelude.{ℕ, zero, suc, ◌+◌, true, false, List, [], ◌∷◌, ◌++◌, length, map}
 use Rattle.term_core.specs.Datum.{cells}
 use Rattle.term_core.specs.Datum.Datum.{nil}
@@ -22,19 +22,19 @@ use Rattle.compiler_assembly.specs.declared.op.Op.TheVariants as op
 use Rattle.compiler_assembly.specs.declared.op.Target.{Target}
 use Rattle.compiler_assembly.specs.declared.op.Target.TheVariants.{Failing, Ahead}
 
--- The variables of the specification, those of the clause, and where the expression stands.
+-- The variables of the specification, those of the clause, and whether the expression is a condition or in a body.
 pub record Site : Type 0 where
   pub slots : List ℕ
   pub bound : List ℕ
   pub mode : Mode
 
--- where an instruction leads that fails: in a condition to the clause's end, in a body so many lines ahead
+-- where an instruction leads that fails: in a condition to the clause's end, in a body past n lines
 abbrev pub failure : Mode → ℕ → Target
 failure Condition n = Failing
 failure Body n = Ahead n
 
--- What an expression's lines end with where one of them may fail: in a body a jump over 'EXIT', to which those lead
--- that fail. So many places stand below its value, of which these are integers.
+-- The last lines of an expression of which one may fail: in a body a jump over 'EXIT', to which the lines lead that
+-- fail. There are `depth` places below its value, of which these are integers.
 abbrev pub exit_lines : Mode → ℕ → List (ℕ × Kind) → List SourceLine
 exit_lines Condition depth integers = []
 exit_lines Body depth integers =
@@ -42,12 +42,12 @@ exit_lines Body depth integers =
     ∷ before_label (op.Const exit_term) (suc depth) integers
     ∷ []
 
--- so many cells are made of as many elements and a tail, which fails behind so many lines of the expression and a jump
+-- the lines that make n cells of n elements and a tail; in a body one that fails leads past the remaining lines and a jump
 abbrev pub cell_lines : Mode → ℕ → List SourceLine
 cell_lines mode zero = []
 cell_lines mode (suc n) = plain (op.MakeCons (failure mode (suc n))) ∷ cell_lines mode n
 
--- a list of the clause's variables' values, for which memory or depth may not do where it has elements
+-- the lines of the list of the clause's variables' values; making it may fail if it has elements
 abbrev pub bindings_lines : Site → ℕ → List (ℕ × Kind) → List ℕ → List SourceLine
 bindings_lines site depth integers [] = plain (op.Const nil) ∷ []
 bindings_lines site depth integers (v ∷ vs) =
@@ -55,7 +55,7 @@ bindings_lines site depth integers (v ∷ vs) =
     ++ plain (op.Const nil)
     ∷ (cell_lines site.mode (length (v ∷ vs)) ++ exit_lines site.mode depth integers)
 
--- a function of two integers, of the lines of both; the second are behind the first
+-- the lines of a function of two integers, made of those of both arguments; the second come after the first
 abbrev pub arithmetic_lines : Mode → Arithmetic → List SourceLine → List SourceLine
     → List SourceLine
 arithmetic_lines mode f first second =
@@ -64,19 +64,19 @@ arithmetic_lines mode f first second =
     ∷ (second
     ++ plain (op.Int (failure mode 2)) ∷ plain (op.Arith f (failure mode 1)) ∷ [])
 
--- how many elements stand before the tail of a list that is made
+-- the number of elements before the tail of a list that is made
 abbrev pub cell_count : Expression → ℕ
 cell_count (new_cell e f) = suc (cell_count f)
 cell_count e = 0
 
--- the elements of a list that is made and its tail, and where it isn't itself a tail, its cells
+-- the lines of the elements and the tail of a list that is made, followed, if the list is not itself a tail, by its cells
 abbrev pub list_lines : Mode → ℕ → List (ℕ × Kind) → Position → ℕ → List SourceLine
     → List SourceLine
 list_lines mode depth integers as_tail count ls = ls
 list_lines mode depth integers by_itself count ls =
     ls ++ (cell_lines mode count ++ exit_lines mode depth integers)
 
--- what andalso ends with: true, behind a jump false, and in a body behind another jump 'EXIT'
+-- the last lines of andalso: true, after a jump false, and in a body after another jump 'EXIT'
 abbrev pub all_true_lines : Mode → ℕ → List (ℕ × Kind) → List SourceLine
 all_true_lines Condition depth integers =
     plain (op.Const (boolean true))
@@ -91,7 +91,8 @@ all_true_lines Body depth integers =
     ∷ before_label (op.Const exit_term) (suc depth) integers
     ∷ []
 
--- an argument of andalso, before the lines of others: no truth value fails behind all of them, false leads to false
+-- the lines of an argument of andalso, before those of the others: no truth value fails past all of them, and false
+-- leads to false
 abbrev pub and_lines : Mode → List SourceLine → List SourceLine → List SourceLine
 and_lines mode ls rest =
     ls
@@ -99,7 +100,7 @@ and_lines mode ls rest =
     ∷ plain (op.Branch (Ahead (length rest + 2)))
     ∷ rest
 
--- what orelse ends with: false, and in a body behind a jump 'EXIT'
+-- the last lines of orelse: false, and in a body after a jump 'EXIT'
 abbrev pub none_true_lines : Mode → ℕ → List (ℕ × Kind) → List SourceLine
 none_true_lines Condition depth integers =
     before_label (op.Const (boolean false)) (suc depth) integers ∷ []
@@ -109,7 +110,7 @@ none_true_lines Body depth integers =
     ∷ before_label (op.Const exit_term) (suc depth) integers
     ∷ []
 
--- an argument of orelse, before all other lines of it: where it is true, so is the whole, else the others are looked at
+-- the lines of an argument of orelse, before all its other lines: if it is true, so is the whole, else the others follow
 abbrev pub or_lines : Mode → ℕ → List (ℕ × Kind) → List SourceLine → List SourceLine
     → List SourceLine
 or_lines mode depth integers ls rest =
@@ -121,7 +122,7 @@ or_lines mode depth integers ls rest =
     ∷ rest
 
 abbrev mutual
-  -- the lines of an expression at this position, with so many places below its value, of which these are integers
+  -- the lines of an expression at this position, with `depth` places below its value, of which these are integers
   pub lines_at : Site → ℕ → List (ℕ × Kind) → Expression → Position → List SourceLine
   lines_at site depth integers (bound n) position =
       plain (op.Get (rank_of site.slots n)) ∷ []
@@ -177,7 +178,7 @@ abbrev mutual
       and_lines site.mode (lines_at site depth integers e by_itself)
       (test_lines site depth integers es)
 
-  -- the arguments of orelse and what it ends with
+  -- the arguments of orelse and its last lines
   pub choice_lines : Site → ℕ → List (ℕ × Kind) → Expressions → List SourceLine
   choice_lines site depth integers no_expressions =
       none_true_lines site.mode depth integers

@@ -1,7 +1,8 @@
 //! Lines that need no expression.
 ghost use Rattle.std.specs.Prelude.{◌≡◌, ◌∷◌, IfOk, OnOk};
 ghost use Rattle.term_core.specs.Datum.{cells};
-ghost use Rattle.term_core.specs.Datum.Datum.{nil};
+ghost use Rattle.std.specs.Str.{chars};
+ghost use Rattle.term_core.specs.Datum.Datum.{nil, atom};
 ghost use Rattle.term_core.specs.Limits.{IsTerm};
 ghost use Rattle.mspec_syntax.specs.Expression.{assignments_of, assignment_keys};
 ghost use Rattle.term_operand.specs.Operand.{boolean};
@@ -16,7 +17,7 @@ use std::alloc::{AllocError, Allocator};
 use term_build::make_list;
 use term_core::Term;
 
-/// The list of a map's keys.
+/// Returns the list of a map's keys. Fails if an allocation fails.
 pub(crate) fn key_list<A: Allocator + Copy>(
     alloc: A,
     assignments: &[(Term<A>, Expression<A>)],
@@ -35,22 +36,24 @@ pub(crate) fn key_list<A: Allocator + Copy>(
     }
 }
 
-/// The atom `true` or `false`.
+/// Returns the text of the atom `true` or `false`.
+fn boolean_text(value: bool) -> &'static str
+    ensures { atom (chars result.now) ≡ boolean value }
+{
+    if value { "true" } else { "false" }
+}
+
+/// Returns the atom `true` or `false`. Fails if an allocation fails.
 fn boolean_term<A: Allocator + Copy>(alloc: A, value: bool) -> Result<Term<A>, AllocError>
     ensures { IfOk result (λ term. term ≡ boolean value) }
 {
-    let characters = if value {
-        Vec::from_slice(alloc, &['t', 'r', 'u', 'e'])?
-    } else {
-        Vec::from_slice(alloc, &['f', 'a', 'l', 's', 'e'])?
-    };
-    match Term::from_characters(alloc, characters) {
+    match Term::atom(alloc, boolean_text(value)) {
         Ok(atom) => Ok(atom),
         Err(_) => Err(AllocError),
     }
 }
 
-/// Puts an instruction before the lines.
+/// Puts an instruction at the front of `lines`. Fails if an allocation fails.
 pub(crate) fn put<A: Allocator>(op: Op<Term<A>>, lines: &mut Lines<A>) -> Result<(), AllocError>
     ensures { OnOk result (lines.new ≡ plain op ∷ lines.old) }
 {
@@ -67,7 +70,7 @@ impl<'s, A: Allocator + Copy> Site<'s, A> {
     ghost use Rattle.compiler_expressions.specs.Expressions.{failure, exit_lines, cell_lines, bindings_lines, all_true_lines, none_true_lines};
     ghost use Rattle.compiler_expressions.specs.Writable.{IsNear, AreWritable, most_counted, most_slot};
 
-    /// Puts an instruction and a label behind it before the lines.
+    /// Puts an instruction with a label after it at the front of `lines`. Fails if an allocation fails.
     fn put_before_label(
         &self,
         op: Op<Term<A>>,
@@ -81,7 +84,8 @@ impl<'s, A: Allocator + Copy> Site<'s, A> {
         lines.prepend(op, Some(Label::Inside { depth, integers }))
     }
 
-    /// Puts the atom `true` or `false`.
+    /// Puts the instruction that pushes the atom `true` or `false` at the front of `lines`. Fails if an allocation
+    /// fails.
     fn put_boolean(&self, value: bool, lines: &mut Lines<A>) -> Result<(), AllocError>
         ensures { OnOk result (lines.new ≡ plain (Const (boolean value)) ∷ lines.old) }
     {
@@ -89,7 +93,8 @@ impl<'s, A: Allocator + Copy> Site<'s, A> {
         put(Op::Const(atom), lines)
     }
 
-    /// Puts what the lines of an expression end with where one of them may fail.
+    /// Puts the last lines of an expression of which a line may fail at the front of `lines`. Fails if an allocation
+    /// fails.
     pub(crate) fn put_exit(
         &self,
         depth: u16,
@@ -110,7 +115,8 @@ impl<'s, A: Allocator + Copy> Site<'s, A> {
         }
     }
 
-    /// Puts what makes so many cells of elements and a tail.
+    /// Puts the lines that make `count` cells of elements and a tail at the front of `lines`. Fails if an allocation
+    /// fails.
     pub(crate) fn put_cells(&self, count: usize, lines: &mut Lines<A>) -> Result<(), AllocError>
         requires { AreWritable (cell_lines self.now.mode count) }
         ensures { OnOk result (lines.new ≡ cell_lines self.now.mode count ++ lines.old) }
@@ -121,7 +127,7 @@ impl<'s, A: Allocator + Copy> Site<'s, A> {
         Ok(())
     }
 
-    /// Puts the value of a variable.
+    /// Puts the instruction that pushes the value of a variable at the front of `lines`. Fails if an allocation fails.
     pub(crate) fn put_variable(&self, number: u32, lines: &mut Lines<A>) -> Result<(), AllocError>
         requires { rank_of self.now.slots number ≤ most_slot }
         ensures { OnOk result (lines.new ≡ plain (Get (rank_of self.now.slots number))
@@ -130,7 +136,7 @@ impl<'s, A: Allocator + Copy> Site<'s, A> {
         put(Op::Get(self.slot(number)), lines)
     }
 
-    /// Puts the values of variables.
+    /// Puts the instructions that push the values of variables at the front of `lines`. Fails if an allocation fails.
     fn put_variables(&self, numbers: &[u32], lines: &mut Lines<A>) -> Result<(), AllocError>
         requires { AreWritable (map (λ n. plain (Get (rank_of self.now.slots n))) numbers.now) }
         ensures { OnOk result (lines.new
@@ -142,7 +148,8 @@ impl<'s, A: Allocator + Copy> Site<'s, A> {
         Ok(())
     }
 
-    /// Puts the list of the values of the clause's variables.
+    /// Puts the lines of the list of the values of the clause's variables at the front of `lines`. Fails if an
+    /// allocation fails.
     pub(crate) fn put_bindings(
         &self,
         depth: u16,
@@ -164,7 +171,7 @@ impl<'s, A: Allocator + Copy> Site<'s, A> {
         self.put_variables(numbers, lines)
     }
 
-    /// Puts a constant.
+    /// Puts the instruction that pushes a constant at the front of `lines`. Fails if an allocation fails.
     pub(crate) fn put_constant(
         &self,
         term: &Term<A>,
@@ -175,7 +182,7 @@ impl<'s, A: Allocator + Copy> Site<'s, A> {
         put(Op::Const(term.copy()?), lines)
     }
 
-    /// Puts what `andalso` ends with.
+    /// Puts the last lines of `andalso` at the front of `lines`. Fails if an allocation fails.
     pub(crate) fn put_all_true(
         &self,
         depth: u16,
@@ -201,7 +208,7 @@ impl<'s, A: Allocator + Copy> Site<'s, A> {
         self.put_boolean(true, lines)
     }
 
-    /// Puts what `orelse` ends with.
+    /// Puts the last lines of `orelse` at the front of `lines`. Fails if an allocation fails.
     pub(crate) fn put_none_true(
         &self,
         depth: u16,
@@ -224,7 +231,8 @@ impl<'s, A: Allocator + Copy> Site<'s, A> {
         }
     }
 
-    /// Puts what looks at an argument of `andalso` before so many lines of the others.
+    /// Puts the lines that examine an argument of `andalso` before `others` lines of the other arguments. Fails if an
+    /// allocation fails.
     pub(crate) fn put_test(&self, others: usize, lines: &mut Lines<A>) -> Result<(), AllocError>
         requires failing { IsNear (failure self.now.mode (others + 5)) }
         requires branch { others + 2 ≤ most_counted }
@@ -236,7 +244,7 @@ impl<'s, A: Allocator + Copy> Site<'s, A> {
         put(Op::Bool(self.failure(others + 5)), lines)
     }
 
-    /// Puts what looks at an argument of `orelse` before so many other lines.
+    /// Puts the lines that examine an argument of `orelse` before `others` other lines. Fails if an allocation fails.
     pub(crate) fn put_choice(
         &self,
         depth: u16,
@@ -257,7 +265,8 @@ impl<'s, A: Allocator + Copy> Site<'s, A> {
         put(Op::Bool(self.failure(others + 2)), lines)
     }
 
-    /// Puts a function of two integers behind the lines of both.
+    /// Puts the lines that apply a function of two integers; they come after the lines of both arguments. Fails if an
+    /// allocation fails.
     pub(crate) fn put_arithmetic(
         &self,
         function: Arithmetic,

@@ -1,10 +1,10 @@
-//! Where expressions stand.
+//! The context of expressions.
 use compiler_assembly::Target;
 use mspec_syntax::{Mode, Variables};
 use std::alloc::{Allocator, Global};
 use std::marker::Model;
 
-/// Where an expression stands: the variables of the specification, which have slots, those of the clause's head, and
+/// The context of an expression: the variables of the specification, which have slots, those of the clause's head, and
 /// whether it is a condition or in a body.
 #[derive(Drop)]
 pub struct Site<'s, A: Allocator = Global> {
@@ -28,7 +28,8 @@ impl<'s, A: Allocator + Copy> Site<'s, A> {
     ghost use Rattle.compiler_expressions.specs.Expressions.{failure};
     ghost use Rattle.compiler_expressions.specs.Writable.{IsNear, most_slot};
 
-    /// The site of an expression of a clause whose head has the variables `bound`, where the specification has `slots`.
+    /// Makes the context of an expression of a clause whose head has the variables `bound`, in a specification with the
+    /// variables `slots`.
     pub fn new(alloc: A, slots: &'s Variables<A>, bound: &'s Variables<A>, mode: Mode) -> Self
         ensures { result ≡ record { slots = slots.now; bound = bound.now; mode = mode } }
     {
@@ -40,26 +41,26 @@ impl<'s, A: Allocator + Copy> Site<'s, A> {
         }
     }
 
-    /// The allocator of lines and of their constants.
+    /// Returns the allocator of lines and of their constants.
     pub(crate) fn alloc(&self) -> A {
         self.alloc
     }
 
-    /// Whether the expression is a condition or in a body.
+    /// Returns whether the expression is a condition or in a body.
     pub(crate) fn mode(&self) -> Mode
         ensures { result ≡ self.now.mode }
     {
         self.mode
     }
 
-    /// The variables of the clause's head.
+    /// Returns the variables of the clause's head.
     pub(crate) fn bound(&self) -> &'s [u32]
         ensures { result.now ≡ self.now.bound }
     {
         self.bound.numbers()
     }
 
-    /// The slot of a variable.
+    /// Returns the slot of a variable.
     pub(crate) fn slot(&self, number: u32) -> u8
         requires { rank_of self.now.slots number ≤ most_slot }
         ensures { result ≡ rank_of self.now.slots number }
@@ -68,7 +69,7 @@ impl<'s, A: Allocator + Copy> Site<'s, A> {
         rank as u8
     }
 
-    /// Where an instruction leads that fails, in a body so many lines ahead.
+    /// Returns where an instruction leads that fails: in a condition to the clause's end, in a body past `ahead` lines.
     pub(crate) fn failure(&self, ahead: usize) -> Target
         requires { IsNear (failure self.now.mode ahead) }
         ensures { result ≡ failure self.now.mode ahead }
@@ -79,8 +80,9 @@ impl<'s, A: Allocator + Copy> Site<'s, A> {
         }
     }
 
-    /// Where an instruction leads that fails, in a body behind so many lines and so many more.
-    pub(crate) fn failure_behind(&self, count: usize, more: usize) -> Target
+    /// Returns where an instruction leads that fails: in a condition to the clause's end, in a body past `count + more`
+    /// lines.
+    pub(crate) fn failure_after(&self, count: usize, more: usize) -> Target
         requires { IsNear (failure self.now.mode (count + more)) }
         ensures { result ≡ failure self.now.mode (count + more) }
     {

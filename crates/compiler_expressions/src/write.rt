@@ -20,8 +20,8 @@ impl<'s, A: Allocator + Copy> Site<'s, A> {
     ghost use Rattle.compiler_expressions.specs.Expressions.{lines_at, argument_lines, value_lines};
     ghost use Rattle.compiler_expressions.specs.Writable.{CanBeWritten, AreWritable, IsSoundSite, most_counted};
 
-    /// Puts the lines of an expression before others: `depth` places stand below its value, of which `integers` are
-    /// known to hold integers, from the lowest. An `Err` is want of memory.
+    /// Puts the lines of an expression at the front of `lines`: `depth` places are below its value, of which `integers`
+    /// are known to hold integers, in ascending order. Fails if an allocation fails.
     pub fn write_expression(
         &self,
         depth: u16,
@@ -39,7 +39,7 @@ impl<'s, A: Allocator + Copy> Site<'s, A> {
         self.write_one(depth, integers, expression, lines)
     }
 
-    /// Puts the lines of an expression.
+    /// Puts the lines of an expression at the front of `lines`. Fails if an allocation fails.
     #[cycle(write)]
     fn write_one(
         &self,
@@ -79,7 +79,7 @@ impl<'s, A: Allocator + Copy> Site<'s, A> {
         }
     }
 
-    /// Puts the lines of a call.
+    /// Puts the lines of a call at the front of `lines`. Fails if an allocation fails.
     #[cycle(write)]
     fn write_call(
         &self,
@@ -104,7 +104,7 @@ impl<'s, A: Allocator + Copy> Site<'s, A> {
         }
     }
 
-    /// Puts the lines of a call of a function.
+    /// Puts the lines of a call of a function at the front of `lines`. Fails if an allocation fails.
     #[cycle(write)]
     fn write_function(
         &self,
@@ -125,7 +125,8 @@ impl<'s, A: Allocator + Copy> Site<'s, A> {
         self.write_all(depth, integers, arguments, lines)
     }
 
-    /// Puts the lines of a call of a function of two integers.
+    /// Puts the lines of a call of a function of two integers at the front of `lines`; none for another number of
+    /// arguments. Fails if an allocation fails.
     #[cycle(write)]
     fn write_arithmetic(
         &self,
@@ -148,12 +149,13 @@ impl<'s, A: Allocator + Copy> Site<'s, A> {
         self.put_arithmetic(function, lines)?;
         let end = lines.len();
         self.write_second(depth, integers, &arguments[1], lines)?;
-        let failure = self.failure_behind(lines.len() - end, 3);
+        let failure = self.failure_after(lines.len() - end, 3);
         put(Op::Int(failure), lines)?;
         self.write_one(depth, integers, &arguments[0], lines)
     }
 
-    /// Puts the lines of an expression above an integer.
+    /// Puts the lines of an expression at the front of `lines`, whose value is pushed above an integer. Fails if an
+    /// allocation fails.
     #[cycle(write)]
     fn write_second(
         &self,
@@ -172,7 +174,8 @@ impl<'s, A: Allocator + Copy> Site<'s, A> {
         self.write_one(depth + 1, integers.as_slice(), expression, lines)
     }
 
-    /// Puts the lines of arguments or elements, each above the one before.
+    /// Puts the lines of arguments or elements at the front of `lines`; each value is pushed above the one before.
+    /// Fails if an allocation fails.
     #[cycle(write)]
     fn write_all(
         &self,
@@ -194,7 +197,7 @@ impl<'s, A: Allocator + Copy> Site<'s, A> {
         Ok(())
     }
 
-    /// Puts the lines of `andalso`.
+    /// Puts the lines of `andalso` at the front of `lines`. Fails if an allocation fails.
     #[cycle(write)]
     fn write_and(
         &self,
@@ -217,7 +220,7 @@ impl<'s, A: Allocator + Copy> Site<'s, A> {
         Ok(())
     }
 
-    /// Puts the lines of `orelse`.
+    /// Puts the lines of `orelse` at the front of `lines`. Fails if an allocation fails.
     #[cycle(write)]
     fn write_or(
         &self,
@@ -240,7 +243,7 @@ impl<'s, A: Allocator + Copy> Site<'s, A> {
         Ok(())
     }
 
-    /// Puts the lines of a tuple.
+    /// Puts the lines of a tuple at the front of `lines`. Fails if an allocation fails.
     #[cycle(write)]
     fn write_tuple(
         &self,
@@ -260,7 +263,7 @@ impl<'s, A: Allocator + Copy> Site<'s, A> {
         self.write_all(depth, integers, elements, lines)
     }
 
-    /// Puts the lines of a list of elements and a tail.
+    /// Puts the lines of a list of elements and a tail at the front of `lines`. Fails if an allocation fails.
     #[cycle(write)]
     fn write_list(
         &self,
@@ -283,7 +286,8 @@ impl<'s, A: Allocator + Copy> Site<'s, A> {
         self.write_all(depth, integers, elements, lines)
     }
 
-    /// Puts the lines of a list's tail, `[]` where there is none.
+    /// Puts the lines of a list's tail at the front of `lines`; without a tail it is `[]`. Fails if an allocation
+    /// fails.
     #[cycle(write)]
     fn write_tail(
         &self,
@@ -302,7 +306,7 @@ impl<'s, A: Allocator + Copy> Site<'s, A> {
         }
     }
 
-    /// Puts the lines of a map.
+    /// Puts the lines of a map at the front of `lines`. Fails if an allocation fails.
     #[cycle(write)]
     fn write_map(
         &self,
@@ -322,7 +326,8 @@ impl<'s, A: Allocator + Copy> Site<'s, A> {
         self.write_values(depth, integers, assignments, lines)
     }
 
-    /// Puts the lines of the values of a map's keys, each above the one before.
+    /// Puts the lines of the values of a map's keys at the front of `lines`; each value is pushed above the one before.
+    /// Fails if an allocation fails.
     #[cycle(write)]
     fn write_values(
         &self,

@@ -1,4 +1,4 @@
--- The term that a pattern spells, where it spells one.
+-- The term that a pattern spells, if it spells one.
 use Rattle.std.proofs.Common.{◌≡◌, ℕ, ◌<◌, Option, Some, None, List, map, length, get_or, refl, sym, ◌∙◌, ap}
 use Rattle.std.specs.Prelude.{Bool, true, false, ◌&&◌}
 use Rattle.std.specs.Option.{is_some}
@@ -23,7 +23,7 @@ by_test : (b : Bool) (P : Type 0) → (b ≡ true → P) → (b ≡ false → P)
 by_test true P f g = f refl
 by_test false P f g = g refl
 
--- one that spells no term
+-- if an element spells no term, not all elements do
 pub none-spelled : (ps : List Pattern) (i : ℕ) (p : Pattern) → i < length ps → p ≡ get_or ps i p → None ≡ own_term p → all_spell ps ≡ false
 none-spelled ps i p h is none =
     by_test (all_spell ps) (all_spell ps ≡ false)
@@ -44,7 +44,7 @@ pub no-tail : (ps : List Pattern) (t : Pattern) → None ≡ own_term t → None
 no-tail ps t none =
     none-of (own_term (cells_of ps t)) (cells-spell ps t ∙ ap (λ b. all_spell ps && b) (sym (ap is_some none)) ∙ and-false (all_spell ps))
 
--- what is made of the terms that a sound pattern's elements spell
+-- the tuple made from the terms that a sound pattern's elements spell is the term that the pattern spells
 pub tuple-found : (ps : List Pattern) (ds : List Datum) (made : Option Datum) → IsSoundPattern (tuple_of (patterns_of ps)) → map own_term ps ≡ map Some ds → made ≡ within_limits (tuple (items_of ds)) → made ≡ own_term (tuple_of (patterns_of ps))
 tuple-found ps ds made s h e =
     let own = tuple-made ps ds h in own-made (tuple_of (patterns_of ps)) (tuple (items_of ds)) made s own e ∙ sym own

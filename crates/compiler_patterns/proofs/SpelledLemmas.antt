@@ -21,11 +21,11 @@ pub and-right : (a b : Bool) → (a && b) ≡ true → b ≡ true
 and-right true b h = h
 and-right false b h = absurd (let q : false ≡ true = h in cc)
 
--- the rest of a row as a part of it
+-- taking the length of the rest from the rest is the rest
 pub rest-slice : {X : Type 0} (i : ℕ) (xs : List X) → take (length xs - i) (drop i xs) ≡ drop i xs
 rest-slice i xs = take_all (length xs - i) (drop i xs) (omega (arith, length-drop i xs))
 
--- what is left, from its first element
+-- what is left of a list begins with its first element
 pub split_at : {X : Type 0} (xs : List X) (i : ℕ) (x : X) → i < length xs → x ≡ get_or xs i x → drop i xs ≡ x ∷ drop (i + 1) xs
 split_at xs i x h e = drop-cons xs i x h ∙ ap (λ y. y ∷ drop (suc i) xs) (sym e) ∙ ap (λ j. x ∷ drop j xs) (sym (add-one i))
 
@@ -50,11 +50,11 @@ items-spell [] = refl
 items-spell (p ∷ ps) =
     some-item (own_term p) (own_terms (patterns_of ps)) ∙ ap (λ b. spells p && b) (items-spell ps)
 
--- a tuple spells a term where all its elements do
+-- a tuple pattern spells a term if and only if all its elements do
 pub tuple-spells : (ps : List Pattern) → spells (tuple_of (patterns_of ps)) ≡ all_spell ps
 tuple-spells ps = some-map (own_terms (patterns_of ps)) ∙ items-spell ps
 
--- a list, where its tail does too
+-- a list pattern spells a term if and only if all its elements and its tail do
 pub cells-spell : (ps : List Pattern) (t : Pattern) → spells (cells_of ps t) ≡ (all_spell ps && spells t)
 cells-spell [] t = refl
 cells-spell (p ∷ ps) t =
@@ -78,7 +78,7 @@ sound-get (x ∷ ps) (suc i) p h s = sound-get ps i p (omega arith) s.1
 pub sound-at : (ps : List Pattern) (i : ℕ) (p : Pattern) → i < length ps → p ≡ get_or ps i p → AreSoundPatterns (patterns_of ps) → IsSoundPattern p
 sound-at ps i p h is s = subst IsSoundPattern (sym is) (sound-get ps i p h s)
 
--- the elements and the tail of a list
+-- the elements and the tail of a sound list are sound
 pub sound-cells : (ps : List Pattern) (t : Pattern) → IsSoundPattern (cells_of ps t) → AreSoundPatterns (patterns_of ps) × IsSoundPattern t
 sound-cells [] t s = (tt, s)
 sound-cells (p ∷ ps) t s = let rest = sound-cells ps t s.2 in ((s.1, rest.0), rest.1)
@@ -86,7 +86,7 @@ sound-cells (p ∷ ps) t s = let rest = sound-cells ps t s.2 in ((s.1, rest.0), 
 some-term : (o : Option Datum) (d : Datum) → o ≡ Some d → IfSome o IsTerm → IsTerm d
 some-term o d is h = let P : Option Datum → Type 0 = λ x. IfSome x IsTerm in subst P is h
 
--- what a sound pattern spells is a term
+-- what a sound pattern spells is a term within the limits
 pub spelled-term : (p : Pattern) (d : Datum) → IsSoundPattern p → own_term p ≡ Some d → IsTerm d
 spelled-term (variable n) d s is = absurd (cc)
 spelled-term anything d s is = absurd (cc)
@@ -104,11 +104,11 @@ items-made (p ∷ ps) (d ∷ ds) h =
     let rest : map own_term ps ≡ map Some ds = cc in
     ap (λ o. own_item o (own_terms (patterns_of ps))) first ∙ ap (λ o. own_item (Some d) o) (items-made ps ds rest)
 
--- the tuple of the terms that its elements spell
+-- a tuple pattern spells the tuple of the terms that its elements spell
 pub tuple-made : (ps : List Pattern) (ds : List Datum) → map own_term ps ≡ map Some ds → own_term (tuple_of (patterns_of ps)) ≡ Some (tuple (items_of ds))
 tuple-made ps ds h = ap (option_map tuple) (items-made ps ds h)
 
--- the list of the terms that its elements spell, and its tail
+-- a list pattern spells the list of the terms that its elements spell, with the tail's term as its tail
 pub list-made : (ps : List Pattern) (t : Pattern) (ds : List Datum) (d : Datum) → map own_term ps ≡ map Some ds → own_term t ≡ Some d → own_term (cells_of ps t) ≡ Some (cells ds d)
 list-made [] t [] d h e = e
 list-made [] t (x ∷ ds) d h e = absurd (cc)
@@ -119,16 +119,16 @@ list-made (p ∷ ps) t (x ∷ ds) d h e =
     ap (λ o. own_cell o (own_term (cells_of ps t))) first
     ∙ ap (λ o. own_cell (Some x) o) (list-made ps t ds d rest e)
 
--- a term that a sound pattern spells is made
+-- a term that a sound pattern spells can be made
 pub own-made : (p : Pattern) (d : Datum) (made : Option Datum) → IsSoundPattern p → own_term p ≡ Some d → made ≡ within_limits d → made ≡ Some d
 own-made p d made s is e = e ∙ sym (made-within_limits d d refl (spelled-term p d s is))
 
--- where none is left, those so far are all
+-- if no pattern is left, the terms so far are all
 pub terms-all : (ps : List Pattern) (i : ℕ) (ds : List Datum) → length ps ≤ i → map Some ds ++ map own_term (drop i ps) ≡ map own_term ps → map own_term ps ≡ map Some ds
 terms-all ps i ds end front =
     sym front ∙ ap (λ l. map Some ds ++ map own_term l) (drop_all i ps end) ∙ append-nil (map Some ds)
 
--- one term more
+-- the terms after one more pattern
 pub terms-more : (ps : List Pattern) (i : ℕ) (p : Pattern) (ds ds' : List Datum) (d : Datum) → i < length ps → p ≡ get_or ps i p → own_term p ≡ Some d → ds' ≡ ds ++ d ∷ [] → map Some ds ++ map own_term (drop i ps) ≡ map own_term ps → map Some ds' ++ map own_term (drop (i + 1) ps) ≡ map own_term ps
 terms-more ps i p ds ds' d h is own more front =
     ap (λ l. map Some l ++ map own_term (drop (i + 1) ps)) more
@@ -145,7 +145,7 @@ back make Q xs ps p is same h = subst Q (sym (ap make same ∙ is)) h
 pub forth : {X : Type 0} (make : List X → Pattern) (Q : Pattern → Type 0) (xs ps : List X) (p : Pattern) → make ps ≡ p → xs ≡ ps → Q (make xs) → Q p
 forth make Q xs ps p is same h = subst Q (ap make same ∙ is) h
 
--- a list whose elements spell terms spells one where its tail does
+-- a list whose elements spell terms spells one if and only if its tail does
 pub tail-decides : (ps xs : List Pattern) (t p : Pattern) (first last : Bool) → cells_of ps t ≡ p → xs ≡ ps → first ≡ all_spell xs → first ≡ true → last ≡ spells t → last ≡ spells p
 tail-decides ps xs t p first last is same f h l =
     let all : all_spell ps ≡ true = sym (ap all_spell same) ∙ sym f ∙ h in

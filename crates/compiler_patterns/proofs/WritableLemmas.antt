@@ -1,4 +1,4 @@
--- What is writable in a writable pattern, and what its parts' lines are.
+-- The parts of a writable pattern are writable, and what their lines are.
 use Rattle.std.proofs.Common.{◌≡◌, Bool, true, false, ◌||◌, ℕ, zero, suc, ◌+◌, ◌<◌, ◌≤◌, List, [], ◌∷◌, ◌++◌, length, get_or, drop, refl, sym, ◌∙◌, ap, subst, arith}
 use Rattle.std.proofs.lemmas.List.{drop_all}
 use Rattle.term_core.specs.Datum.{Datum}
@@ -93,11 +93,11 @@ module _ (slots : List ℕ) where
   pub field-at : (fs : List (Datum × Pattern)) (i : ℕ) (f : Datum × Pattern) → i < length fs → f ≡ get_or fs i f → AreFieldsWritable slots (fields_of fs) → IsWritable slots f.1
   field-at fs i f h is w = subst (λ x. IsWritable slots x.1) (sym is) (field-get fs i f h w)
 
-  -- the elements of a tuple
+  -- the elements of a writable tuple are writable
   pub tuple-elements : (ps : Patterns) → IsWritable slots (tuple_of ps) → AreWritable slots ps
   tuple-elements ps w = record { slotted = w.slotted; sound = w.sound.1; small = omega (arith, w.small) }
 
-  -- the fields of a map
+  -- the fields of a writable map are writable
   pub map-fields : (fs : Fields) → IsWritable slots (map_of fs) → AreFieldsWritable slots fs
   map-fields fs w = record { slotted = w.slotted; sound = w.sound.1; small = omega (arith, w.small) }
 
@@ -117,21 +117,21 @@ module _ (slots : List ℕ) where
         small = omega (arith, w.small, nodes-some p, nodes-tail q);
       }
 
-  -- the rest of a list
+  -- the rest of a writable list is writable
   pub cells-rest : (ps : List Pattern) (t : Pattern) (i : ℕ) → IsWritable slots (cells_of ps t) → IsWritable slots (cells_of (drop i ps) t)
   cells-rest ps t zero w = w
   cells-rest [] t (suc i) w = w
   cells-rest (p ∷ ps) t (suc i) w = cells-rest ps t i (cell-tail p (cells_of ps t) w)
 
-  -- an element of a list
+  -- an element of a writable list is writable
   pub cells-element : (ps : List Pattern) (t : Pattern) (i : ℕ) (p : Pattern) → i < length ps → p ≡ get_or ps i p → IsWritable slots (cells_of ps t) → IsWritable slots p
   cells-element ps t i p h is w =
       cell-head p (cells_of (drop (i + 1) ps) t) (subst (λ l. IsWritable slots (cells_of l t)) (split_at ps i p h is) (cells-rest ps t i w))
 
-  -- its tail
+  -- the tail of a writable list is writable
   pub cells-tail : (ps : List Pattern) (t : Pattern) → IsWritable slots (cells_of ps t) → IsWritable slots t
   cells-tail ps t w = subst (λ l. IsWritable slots (cells_of l t)) (drop_all (length ps) ps (omega arith)) (cells-rest ps t (length ps) w)
 
-  -- a variable has a slot
+  -- a variable that is writable has a slot
   pub variable-slot : (n : ℕ) (p : Pattern) → variable n ≡ p → IsWritable slots p → is_among slots n ≡ true
   variable-slot n p is w = w.slotted n (ap (λ q. is_among (pattern_variables q) n) (sym is) ∙ among-first n [])

@@ -1,4 +1,4 @@
--- What is written one after the other, and what is known behind it.
+-- What is written one after the other, and which variables are known after it.
 use Rattle.std.proofs.Common.{◌≡◌, ◌≢◌, ◌==◌, Bool, true, false, ◌||◌, ℕ, zero, suc, ◌<◌, inl, inr, if◌then◌else◌, List, [], ◌∷◌, ◌++◌, length, get_or, set, replicate, refl, sym, ◌∙◌, ap, subst, arith}
 use Rattle.std.proofs.lemmas.Bool.{cases_eq, eq-eqb, ne_eqb}
 use Rattle.std.proofs.lemmas.List.{append_assoc, append-nil, get_or-set_same, get_or-set_other, length-set, length-replicate, get_or-replicate}
@@ -23,13 +23,13 @@ or-assoc : (a b c : Bool) → (a || (b || c)) ≡ ((a || b) || c)
 or-assoc true b c = refl
 or-assoc false b c = refl
 
--- a variable is among two rows where it is among one of them
+-- a variable is in a joined list if it is in one of the two
 pub among-append : (xs ys : List ℕ) (n : ℕ) → is_among (xs ++ ys) n ≡ (is_among xs n || is_among ys n)
 among-append [] ys n = refl
 among-append (x ∷ xs) ys n =
     ap (λ b. (x == n) || b) (among-append xs ys n) ∙ or-assoc (x == n) (is_among xs n) (is_among ys n)
 
--- no two variables have one slot
+-- no two variables have the same slot
 rank-same : (vs : List ℕ) (n m : ℕ) → is_among vs n ≡ true → is_among vs m ≡ true → rank_of vs n ≡ rank_of vs m → n ≡ m
 rank-same [] n m hn hm e = absurd (cc)
 rank-same (v ∷ vs) n m hn hm e =
@@ -56,7 +56,7 @@ rank-same (v ∷ vs) n m hn hm e =
     ]
 
 module _ (slots : List ℕ) where
-  -- nothing is known where no slot is bound
+  -- no variable is known if no slot is bound
   pub tracks-none : (n : ℕ) → n ≡ length slots → Tracks slots (replicate n false) []
   tracks-none n e =
       record {
@@ -64,7 +64,7 @@ module _ (slots : List ℕ) where
         values = λ m h. sym (get_or-replicate n (rank_of slots m) false false (omega (arith, rank-below slots m h, e)));
       }
 
-  -- a variable is known whose slot is bound
+  -- a variable whose slot is bound is known
   tracks-bound : (n : ℕ) (bound : List Bool) (known : List ℕ) → is_among slots n ≡ true → Tracks slots bound known → Tracks slots (set bound (rank_of slots n) true) (known ++ n ∷ [])
   tracks-bound n bound known hn t =
       let r = rank_of slots n in
@@ -91,7 +91,7 @@ module _ (slots : List ℕ) where
   tracks-along : (a b : Draft) (known : List ℕ) → b.bound ≡ a.bound → Tracks slots a.bound known → Tracks slots b.bound known
   tracks-along a b known e t = let P : List Bool → Type 0 = λ bound. Tracks slots bound known in subst P (sym e) t
 
-  -- lines, and then what is due
+  -- lines, followed by those that are due
   pub puts-then : (added : List SourceLine) (due : List ℕ → List SourceLine) (variables : List ℕ) (a b c : Draft) → Puts added a b → Writes slots due variables b c → Writes slots (λ k. added ++ due k) variables a c
   puts-then added due variables a b c p w =
       record {
@@ -99,7 +99,7 @@ module _ (slots : List ℕ) where
         tracks = λ k h. w.tracks k (tracks-along a b k p.bound h);
       }
 
-  -- what is due, and then lines
+  -- those that are due, followed by lines
   pub then-puts : (added : List SourceLine) (due : List ℕ → List SourceLine) (variables : List ℕ) (a b c : Draft) → Writes slots due variables a b → Puts added b c → Writes slots (λ k. due k ++ added) variables a c
   then-puts added due variables a b c w p =
       record {
@@ -107,7 +107,7 @@ module _ (slots : List ℕ) where
         tracks = λ k h. tracks-along b c (k ++ variables) p.bound (w.tracks k h);
       }
 
-  -- what is due, and then what is due when its variables are known
+  -- those that are due, followed by those that are due once their variables are known
   pub writes-then : (due rest : List ℕ → List SourceLine) (variables others : List ℕ) (a b c : Draft) → Writes slots due variables a b → Writes slots rest others b c → Writes slots (λ k. due k ++ rest (k ++ variables)) (variables ++ others) a c
   writes-then due rest variables others a b c v w =
       record {
@@ -115,7 +115,7 @@ module _ (slots : List ℕ) where
         tracks = λ k h. let P : List ℕ → Type 0 = λ l. Tracks slots c.bound l in subst P (append_assoc k variables others) (w.tracks (k ++ variables) (v.tracks k h));
       }
 
-  -- the same lines and the same variables
+  -- due lines with equal lines and equal variables
   pub writes-same : (due same : List ℕ → List SourceLine) (variables others : List ℕ) (a b : Draft) → ((k : List ℕ) → Tracks slots a.bound k → due k ≡ same k) → variables ≡ others → Writes slots due variables a b → Writes slots same others a b
   writes-same due same variables others a b lines ns w =
       record {
@@ -131,7 +131,7 @@ module _ (slots : List ℕ) where
         tracks = λ k h. let P : List ℕ → Type 0 = λ l. Tracks slots b.bound l in subst P (sym (append-nil k)) (tracks-along a b k p.bound h);
       }
 
-  -- a slot that is bound
+  -- a slot is bound
   module _ (n r : ℕ) (hn : is_among slots n ≡ true) (at : r ≡ rank_of slots n) (a b : Draft) (set_to : r < length a.bound → b ≡ record { bound = set a.bound r true; lines = a.lines }) where
     bound-writes : Writes slots (λ k. []) (n ∷ []) a b
     bound-writes =
@@ -148,7 +148,7 @@ module _ (slots : List ℕ) where
     was-known : (was : Bool) (k : List ℕ) → was ≡ get_or a.bound r false → Tracks slots a.bound k → is_among k n ≡ was
     was-known was k h t = t.values n hn ∙ ap (λ i. get_or a.bound i false) (sym at) ∙ sym h
 
-    -- a variable that was bound before
+    -- a variable that was bound before is compared
     pub known-writes : (was : Bool) (c d : Draft) → was ≡ get_or a.bound r false → was ≡ true → Puts (plain (op.Get r) ∷ []) b c → Puts (plain (op.Equal Failing) ∷ []) c d → Writes slots (λ k. variable_lines slots k n) (n ∷ []) a d
     known-writes was c d h held p q =
         let own = plain (op.Get r) ∷ plain (op.Equal Failing) ∷ [] in
@@ -160,7 +160,7 @@ module _ (slots : List ℕ) where
         ∙ sym (ap (λ x. if x then plain (op.Get (rank_of slots n)) ∷ plain (op.Equal Failing) ∷ [] else plain (op.Bind (rank_of slots n)) ∷ []) known))
         refl lines
 
-    -- a variable that is bound now
+    -- a variable that wasn't bound before is bound
     pub new-writes : (was : Bool) (c : Draft) → was ≡ get_or a.bound r false → was ≡ false → Puts (plain (op.Bind r) ∷ []) b c → Writes slots (λ k. variable_lines slots k n) (n ∷ []) a c
     new-writes was c h held p =
         let lines = then-puts (plain (op.Bind r) ∷ []) (λ k. []) (n ∷ []) a b c bound-writes p in
@@ -171,7 +171,7 @@ module _ (slots : List ℕ) where
         ∙ sym (ap (λ x. if x then plain (op.Get (rank_of slots n)) ∷ plain (op.Equal Failing) ∷ [] else plain (op.Bind (rank_of slots n)) ∷ []) known))
         refl lines
 
--- lines behind lines
+-- lines after lines
 pub puts-puts : (x y : List SourceLine) (a b c : Draft) → Puts x a b → Puts y b c → Puts (x ++ y) a c
 puts-puts x y a b c p q =
     record { lines = q.lines ∙ ap (λ l. l ++ y) p.lines ∙ append_assoc a.lines x y; bound = q.bound ∙ p.bound }

@@ -1,4 +1,4 @@
--- The code of patterns: what is matched is on the top, and is popped; where it doesn't match, the clause fails.
+-- The code of patterns: what is matched is on the top of the stack, and is popped; if it doesn't match, the clause fails.
 use Rattle.std.specs.Prelude.{ℕ, suc, Option, Some, None, option_map, List, [], ◌∷◌, ◌++◌}
 use Rattle.term_core.specs.Datum.{Datum}
 use Rattle.term_core.specs.Datum.Datum.{tuple}
@@ -11,12 +11,12 @@ use Rattle.compiler_assembly.specs.declared.op.Op.TheVariants as op
 use Rattle.compiler_assembly.specs.declared.op.Target.TheVariants.{Failing}
 use Rattle.compiler_patterns.specs.Leaves.{same_lines, variable_lines}
 
--- how many elements
+-- the number of elements
 abbrev pub pattern_count : Patterns → ℕ
 pattern_count no_patterns = 0
 pattern_count (pattern p ps) = suc (pattern_count ps)
 
--- a pattern in which neither a variable, '_' nor a map stands is the term that it spells
+-- the lines of the term that a pattern spells, i.e. if it contains no variable, '_' or map; else the given lines
 abbrev pub same_or : Option Datum → List SourceLine → List SourceLine
 same_or None ls = ls
 same_or (Some d) ls = same_lines d
@@ -46,14 +46,14 @@ abbrev mutual
   pattern_lines vs known (map_of fs) =
       plain (op.Map Failing) ∷ (field_lines vs known fs ++ plain op.Drop ∷ [])
 
-  -- a tuple's elements, of which the first has this number; the tuple stays
+  -- the lines of a tuple's elements, of which the first has number i; the tuple stays on the stack
   pub element_lines : List ℕ → List ℕ → ℕ → Patterns → List SourceLine
   element_lines vs known i no_patterns = []
   element_lines vs known i (pattern p ps) =
       unless_anything p (plain op.Dup ∷ plain (op.Field i) ∷ pattern_lines vs known p)
       ++ element_lines vs (known ++ pattern_variables p) (suc i) ps
 
-  -- the values of a map's keys; the map stays
+  -- the lines of the values of a map's keys; the map stays on the stack
   pub field_lines : List ℕ → List ℕ → Fields → List SourceLine
   field_lines vs known no_fields = []
   field_lines vs known (field k p fs) =
@@ -61,7 +61,7 @@ abbrev mutual
       ∷ plain (op.Value k Failing)
       ∷ (pattern_lines vs known p ++ field_lines vs (known ++ pattern_variables p) fs)
 
--- the head of a clause: the object is pushed and matched, where that can fail or binds anything
+-- the lines of a clause's head: the object is pushed and matched, unless the head is '_', which can't fail or bind anything
 abbrev pub head_lines : List ℕ → Pattern → List SourceLine
 head_lines vs anything = []
 head_lines vs p = plain op.Load ∷ pattern_lines vs [] p

@@ -5,7 +5,7 @@ use Rattle.mspec_syntax.specs.Pattern.{Pattern, Patterns, Fields, pattern_variab
 use Rattle.mspec_syntax.specs.Pattern.Pattern.{anything}
 use Rattle.mspec_syntax.specs.Sound.{IsSoundPattern, AreSoundPatterns, AreSoundFields}
 
--- nodes of a pattern
+-- the greatest number of nodes of a pattern
 abbrev pub most_nodes : ℕ
 most_nodes = 65535
 

@@ -7,10 +7,10 @@ use std::alloc::{AllocError, Allocator};
 use std::marker::Model;
 use term_core::Term;
 
-/// How many instructions most heads have at most.
+/// The number of instructions that most heads don't exceed.
 const MOST: usize = 16;
 
-/// Instructions, none of which has a label behind it, and which slots are bound behind them.
+/// Instructions without labels, and which slots are bound after them.
 #[derive(Drop)]
 pub struct Draft<A: Allocator> {
     bound: Vec<bool, A>,
@@ -37,8 +37,8 @@ impl<A: Allocator> Draft<A> {
     ghost use Rattle.compiler_patterns.specs.Leaves.{same_lines};
     ghost use Rattle.compiler_patterns.specs.Written.{Puts};
 
-    /// No instruction, with so many slots, of which none is bound, and room for the instructions of most heads. An `Err`
-    /// is want of memory.
+    /// Returns a draft without instructions, with `slots` slots of which none is bound, and room for the instructions
+    /// of most heads. Fails if an allocation fails.
     pub fn new(alloc: A, slots: usize) -> Result<Self, AllocError>
     where
         A: Copy,
@@ -50,7 +50,7 @@ impl<A: Allocator> Draft<A> {
         })
     }
 
-    /// Binds a slot where it is there, and says whether it was bound before.
+    /// Binds a slot if the draft has it, and returns whether it was bound before.
     pub(crate) fn bind(&mut self, slot: u8) -> bool
         ensures was { result ≡ get_or self.old.bound slot false }
         ensures bound { slot < length self.old.bound → self.new ≡ record {
@@ -67,7 +67,7 @@ impl<A: Allocator> Draft<A> {
         was
     }
 
-    /// Puts an instruction behind the others. An `Err` is want of memory.
+    /// Appends an instruction. Fails if an allocation fails.
     pub fn put(&mut self, op: Op<Term<A>>) -> Result<(), AllocError>
         ensures { OnOk result (Puts (plain op ∷ []) self.old self.new) }
     {
@@ -77,7 +77,7 @@ impl<A: Allocator> Draft<A> {
         }
     }
 
-    /// Puts what tests that the top is this term. An `Err` is want of memory.
+    /// Appends the instructions that test that the top is this term. Fails if an allocation fails.
     pub fn put_same(&mut self, term: Term<A>) -> Result<(), AllocError>
         ensures { OnOk result (Puts (same_lines term) self.old self.new) }
     {
@@ -85,7 +85,7 @@ impl<A: Allocator> Draft<A> {
         self.put(Op::Equal(Target::Failing))
     }
 
-    /// Moves the instructions before the lines. An `Err` is want of memory.
+    /// Moves all instructions to the front of `lines`. Fails if an allocation fails.
     pub fn prepend_to(&mut self, lines: &mut Lines<A>) -> Result<(), AllocError>
         ensures { OnOk result (lines.new ≡ self.old.lines ++ lines.old) }
     {
@@ -93,7 +93,7 @@ impl<A: Allocator> Draft<A> {
     }
 }
 
-/// Moves instructions before the lines.
+/// Moves all instructions to the front of `lines`. Fails if an allocation fails.
 fn prepend_all<A: Allocator>(
     ops: &mut Vec<Op<Term<A>>, A>,
     lines: &mut Lines<A>,

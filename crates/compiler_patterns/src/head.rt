@@ -13,8 +13,8 @@ use compiler_assembly::{Lines, Op};
 use mspec_syntax::{Pattern, Variables};
 use std::alloc::{AllocError, Allocator};
 
-/// Puts the lines of a clause's head before others, where `slots` are the variables of the specification, in the order
-/// of their slots. An `Err` is want of memory.
+/// Adds the lines of a clause's head at the front of `lines`. `slots` are the variables of the specification, in the
+/// order of their slots. Fails if an allocation fails.
 pub fn write_head<A: Allocator + Copy>(
     alloc: A,
     slots: &Variables<A>,

@@ -1,4 +1,4 @@
-//! Patterns that spell a term: neither a variable, `'_'` nor a map stands in them. The term that they spell.
+//! Patterns that spell a term, i.e. contain no variable, `'_'` or map, and the term that they spell.
 ghost use Rattle.std.specs.Prelude.{◌≡◌, ℕ, ◌<◌, ◌≤◌, false, true, Some, length, map, drop, IfOk, MatchOption};
 ghost use Rattle.mspec_syntax.specs.Pattern.{own_term, patterns_of, cells_of};
 ghost use Rattle.mspec_syntax.specs.Pattern.Pattern.{tuple_of};
@@ -11,7 +11,7 @@ use std::alloc::{AllocError, Allocator};
 use term_build::{make_list, make_tuple};
 use term_core::Term;
 
-/// Whether the pattern spells a term.
+/// Returns whether the pattern spells a term.
 #[cycle(spells)]
 fn spells<A: Allocator>(pattern: &Pattern<A>) -> bool
     ensures { result ≡ spells pattern.now }
@@ -26,7 +26,7 @@ fn spells<A: Allocator>(pattern: &Pattern<A>) -> bool
     }
 }
 
-/// Whether each of these patterns spells a term.
+/// Returns whether each of these patterns spells a term.
 #[cycle(spells)]
 pub(crate) fn all_spell<A: Allocator>(patterns: &[Pattern<A>]) -> bool
     ensures { result ≡ all_spell patterns.now }
@@ -39,7 +39,7 @@ pub(crate) fn all_spell<A: Allocator>(patterns: &[Pattern<A>]) -> bool
     true
 }
 
-/// Whether the tail of a list spells a term, as it does where there is none.
+/// Returns whether the tail of a list spells a term; without a tail it does.
 #[cycle(spells)]
 fn tail_spells<A: Allocator>(tail: &Option<Box<Pattern<A>, A>>) -> bool
     ensures { result ≡ spells (tail_pattern tail.now) }
@@ -50,7 +50,7 @@ fn tail_spells<A: Allocator>(tail: &Option<Box<Pattern<A>, A>>) -> bool
     }
 }
 
-/// How many elements stand before the longest rest of a list that spells a term, all where its tail doesn't.
+/// Returns the number of elements before the longest rest of a list that spells a term: all if its tail spells none.
 pub(crate) fn open_elements<A: Allocator>(
     elements: &[Pattern<A>],
     tail: &Option<Box<Pattern<A>, A>>,
@@ -72,7 +72,7 @@ pub(crate) fn open_elements<A: Allocator>(
     0
 }
 
-/// The term that a pattern spells, if it spells one.
+/// Returns the term that a pattern spells, or `None` if it spells none. Fails if an allocation fails.
 #[cycle(spelled)]
 pub fn spelled<A: Allocator + Copy>(
     alloc: A,
@@ -91,7 +91,7 @@ pub fn spelled<A: Allocator + Copy>(
     }
 }
 
-/// The terms that patterns spell, if each of them spells one.
+/// Returns the terms that patterns spell, or `None` if one of them spells none. Fails if an allocation fails.
 #[cycle(spelled)]
 fn spelled_all<A: Allocator + Copy>(
     alloc: A,
@@ -111,7 +111,8 @@ fn spelled_all<A: Allocator + Copy>(
     Ok(Some(terms))
 }
 
-/// The tuple that a pattern of these elements spells, if it spells one.
+/// Returns the tuple that a pattern of these elements spells, or `None` if it spells none. Fails if an allocation
+/// fails.
 #[cycle(spelled)]
 fn spelled_tuple<A: Allocator + Copy>(
     alloc: A,
@@ -126,7 +127,8 @@ fn spelled_tuple<A: Allocator + Copy>(
     make_tuple(alloc, terms)
 }
 
-/// The list that a pattern of these elements and this tail spells, if it spells one.
+/// Returns the list that a pattern of these elements and this tail spells, or `None` if it spells none. Fails if an
+/// allocation fails.
 #[cycle(spelled)]
 fn spelled_list<A: Allocator + Copy>(
     alloc: A,
@@ -147,7 +149,8 @@ fn spelled_list<A: Allocator + Copy>(
     make_list(alloc, terms, end)
 }
 
-/// The term that the tail of a list spells, if it spells one, `[]` where there is none.
+/// Returns the term that the tail of a list spells, or `None` if it spells none; without a tail it is `[]`. Fails if an
+/// allocation fails.
 #[cycle(spelled)]
 fn spelled_tail<A: Allocator + Copy>(
     alloc: A,
@@ -162,7 +165,8 @@ fn spelled_tail<A: Allocator + Copy>(
     }
 }
 
-/// The tuple that a pattern of these elements spells, each of which spells a term.
+/// Returns the tuple that a pattern of these elements spells; each of them must spell a term. Fails if an allocation
+/// fails.
 pub(crate) fn own_tuple<A: Allocator + Copy>(
     alloc: A,
     elements: &[Pattern<A>],
@@ -177,7 +181,8 @@ pub(crate) fn own_tuple<A: Allocator + Copy>(
     }
 }
 
-/// The list that a pattern of these elements and this tail spells, which all spell terms.
+/// Returns the list that a pattern of these elements and this tail spells; all of them must spell terms. Fails if an
+/// allocation fails.
 pub(crate) fn own_list<A: Allocator + Copy>(
     alloc: A,
     elements: &[Pattern<A>],

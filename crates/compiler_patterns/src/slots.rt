@@ -5,7 +5,7 @@ use mspec_syntax::Variables;
 use std::alloc::{AllocError, Allocator};
 use std::marker::Model;
 
-/// The variables of a specification, of which each has the slot of its rank, and the allocator of their code.
+/// The variables of a specification, each of which has the slot of its rank, and the allocator of their code.
 #[derive(Drop)]
 pub struct VariableSlots<'s, A: Allocator> {
     alloc: A,
@@ -31,7 +31,7 @@ impl<'s, A: Allocator + Copy> VariableSlots<'s, A> {
     ghost use Rattle.compiler_patterns.specs.Leaves.{variable_lines};
     ghost use Rattle.compiler_patterns.specs.Written.{Writes};
 
-    /// The slots of these variables.
+    /// Makes the slots of these variables, of which there are at most as many as code has slots.
     pub fn new(alloc: A, numbers: &'s Variables<A>) -> Self
         requires { length numbers.now ≤ most_slots }
         ensures { result ≡ numbers.now }
@@ -39,12 +39,12 @@ impl<'s, A: Allocator + Copy> VariableSlots<'s, A> {
         VariableSlots { alloc, numbers }
     }
 
-    /// The allocator of code.
+    /// Returns the allocator of the code.
     pub fn alloc(&self) -> A {
         self.alloc
     }
 
-    /// The slot of a variable.
+    /// Returns the slot of a variable, which must be one of the specification's.
     fn slot(&self, number: u32) -> u8
         requires { is_among self.now number ≡ true }
         ensures { result ≡ rank_of self.now number }
@@ -53,7 +53,8 @@ impl<'s, A: Allocator + Copy> VariableSlots<'s, A> {
         rank as u8
     }
 
-    /// Puts what binds a variable, or tests that the top is what it is bound to. An `Err` is want of memory.
+    /// Appends the instructions that bind a variable, or test that the top is its value if it is bound already. Fails
+    /// if an allocation fails.
     pub fn write_variable(&self, number: u32, draft: &mut Draft<A>) -> Result<(), AllocError>
         requires { is_among self.now number ≡ true }
         ensures { OnOk result (Writes self.now (λ known. variable_lines self.now known number)

@@ -18,7 +18,7 @@ use mspec_syntax::{Pattern, PatternKind};
 use std::alloc::{AllocError, Allocator};
 use term_core::Term;
 
-/// Whether the pattern is `'_'`.
+/// Returns whether the pattern is `'_'`.
 pub(crate) fn is_anything<A: Allocator>(pattern: &Pattern<A>) -> bool
     ensures { result ≡ is_anything pattern.now }
 {
@@ -32,7 +32,7 @@ pub(crate) fn is_anything<A: Allocator>(pattern: &Pattern<A>) -> bool
     }
 }
 
-/// Puts the lines of a pattern.
+/// Appends the lines of a pattern to the draft. Fails if an allocation fails.
 #[cycle(write)]
 pub(crate) fn write_pattern<A: Allocator + Copy>(
     slots: &VariableSlots<A>,
@@ -53,7 +53,7 @@ pub(crate) fn write_pattern<A: Allocator + Copy>(
     }
 }
 
-/// Puts the lines of a tuple.
+/// Appends the lines of a tuple to the draft. Fails if an allocation fails.
 #[cycle(write)]
 fn write_tuple<A: Allocator + Copy>(
     slots: &VariableSlots<A>,
@@ -75,7 +75,7 @@ fn write_tuple<A: Allocator + Copy>(
     draft.put(Op::Drop)
 }
 
-/// Puts the lines of a tuple's elements; the tuple stays.
+/// Appends the lines of a tuple's elements to the draft; the tuple stays on the stack. Fails if an allocation fails.
 #[cycle(write)]
 fn write_elements<A: Allocator + Copy>(
     slots: &VariableSlots<A>,
@@ -93,7 +93,8 @@ fn write_elements<A: Allocator + Copy>(
     Ok(())
 }
 
-/// Puts the lines of a tuple's element of this number, none for `'_'`; the tuple stays.
+/// Appends the lines of a tuple's element with this number to the draft, none for `'_'`; the tuple stays on the stack.
+/// Fails if an allocation fails.
 #[cycle(write)]
 fn write_element<A: Allocator + Copy>(
     slots: &VariableSlots<A>,
@@ -115,8 +116,8 @@ fn write_element<A: Allocator + Copy>(
     write_pattern(slots, element, draft)
 }
 
-/// Puts the lines of a list of elements and a tail: those of its elements before the longest rest that spells a term,
-/// and of that rest.
+/// Appends the lines of a list to the draft: those of the elements before the longest rest that spells a term, and
+/// those of this rest. Fails if an allocation fails.
 #[cycle(write)]
 fn write_list<A: Allocator + Copy>(
     slots: &VariableSlots<A>,
@@ -143,7 +144,7 @@ fn write_list<A: Allocator + Copy>(
     write_tail(slots, tail, draft)
 }
 
-/// Puts the lines of a list's head; the list stays.
+/// Appends the lines of a list's head to the draft; the list stays on the stack. Fails if an allocation fails.
 #[cycle(write)]
 fn write_cell<A: Allocator + Copy>(
     slots: &VariableSlots<A>,
@@ -162,7 +163,7 @@ fn write_cell<A: Allocator + Copy>(
     write_pattern(slots, head, draft)
 }
 
-/// Puts the lines of a list's tail, which is `[]` where there is none.
+/// Appends the lines of a list's tail to the draft; without a tail it is `[]`. Fails if an allocation fails.
 #[cycle(write)]
 fn write_tail<A: Allocator + Copy>(
     slots: &VariableSlots<A>,
@@ -180,7 +181,7 @@ fn write_tail<A: Allocator + Copy>(
     }
 }
 
-/// Puts the lines of a map.
+/// Appends the lines of a map to the draft. Fails if an allocation fails.
 #[cycle(write)]
 fn write_map<A: Allocator + Copy>(
     slots: &VariableSlots<A>,
@@ -197,7 +198,8 @@ fn write_map<A: Allocator + Copy>(
     draft.put(Op::Drop)
 }
 
-/// Puts the lines of the values of a map's keys; the map stays.
+/// Appends the lines of the values of a map's keys to the draft; the map stays on the stack. Fails if an allocation
+/// fails.
 #[cycle(write)]
 fn write_fields<A: Allocator + Copy>(
     slots: &VariableSlots<A>,
@@ -216,7 +218,8 @@ fn write_fields<A: Allocator + Copy>(
     Ok(())
 }
 
-/// Puts the lines of the value of a map's key; the map stays.
+/// Appends the lines of the value of a map's key to the draft; the map stays on the stack. Fails if an allocation
+/// fails.
 #[cycle(write)]
 fn write_field<A: Allocator + Copy>(
     slots: &VariableSlots<A>,

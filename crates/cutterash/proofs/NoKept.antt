@@ -1,4 +1,4 @@
--- An engine that stands for what a closed table keeps.
+-- An engine that a closed table has in the proofs, where the code has none.
 use Rattle.std.proofs.Common.{ℕ, [], refl, arith}
 use Rattle.std.specs.declared.alloc.Global.{Global}
 use Rattle.std.specs.declared.vec.Vec.{Vec}

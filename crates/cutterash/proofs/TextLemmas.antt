@@ -1,4 +1,4 @@
--- A text that is refused.
+-- A text that is rejected.
 use Rattle.std.proofs.Common.{ℕ, inl, List}
 use Rattle.term_text.specs.declared.fault.TextFault.{TextFault}
 use Rattle.term_text.specs.declared.fault.TextFault.TheVariants as text
@@ -6,7 +6,7 @@ use Rattle.tool_io.specs.Terms.{IsUnspelled}
 use Rattle.tool_io.specs.Wrapped.{of_text}
 use Rattle.cutterash.specs.Calls.{IsNoTerm}
 
--- a text that spells no terms doesn't spell one
+-- a text that spells no terms does not spell one term
 pub no_terms : (input : List ℕ) (f : TextFault) → IsUnspelled input (of_text f) → IsNoTerm input (of_text f)
 no_terms input text.Memory h = tt
 no_terms input (text.TooDeep at) h = inl h

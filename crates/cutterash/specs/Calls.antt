@@ -1,4 +1,4 @@
--- What each call is for, and why it is refused.
+-- What each call does, and why it rejects its input.
 use Rattle.std.specs.Prelude.{ℕ, ◌≡◌, ◌<◌, ◌⊎◌, true, false, Option, Some, None, List, [], ◌∷◌, length}
 use Rattle.term_core.specs.Datum.{Datum}
 use Rattle.term_text.specs.Text.{Spells}
@@ -17,14 +17,14 @@ use Rattle.cutterash.specs.declared.filter.Filter.{Filter}
 use Rattle.cutterash.specs.declared.reply.Reply.{Reply}
 use Rattle.cutterash.specs.Reply.{Gives, nothing_reply, bounds_reply, refusal_reply}
 
--- why a text doesn't spell one term: want of memory, what stands at the place of its fault, or more than one term
+-- why a text does not spell one term: out of memory, the fault at its byte, or more than one term
 abbrev pub IsNoTerm : List ℕ → ToolFault → Type 0
 IsNoTerm text fault.Memory = Unit {0}
 IsNoTerm text (fault.Text f) = IsTextFault text f
 IsNoTerm text fault.BadInput = (ds : List Datum) × Spells text ds × (1 < length ds)
 IsNoTerm text f = ⊥
 
--- bytes are the file of the specification that a text spells
+-- the bytes are the file of the specification that the text spells
 pub record IsCompiled (text bytes : List ℕ) : Type 0 where
   pub term : Datum
   pub specification : Specification
@@ -32,12 +32,12 @@ pub record IsCompiled (text bytes : List ℕ) : Type 0 where
   pub read : IsRead term specification
   pub file : IsFileOf specification bytes
 
--- why a text has no file: it doesn't spell one term, or its term is no specification
+-- why a text has no file: it does not spell one term, or its term is no specification
 abbrev pub IsUncompiled : List ℕ → ToolFault → Type 0
 IsUncompiled text f =
     IsNoTerm text f ⊎ ((d : Datum) × Spells text (d ∷ []) × IsNoSpecification d f)
 
--- what code answers on the object that a text spells, in text
+-- the text of an answer, if there is one
 abbrev pub answer_text : Option Datum → Option (List ℕ)
 answer_text None = None
 answer_text (Some d) = Some (text_of d)
@@ -49,24 +49,24 @@ pub record IsAnswered (p : Program) (text : List ℕ) (answer : Option (List ℕ
 
 -- ---- replies
 
--- an input is refused, and the room is as before
+-- an input is rejected with this reply, and the room is unchanged
 pub record Refuses (Why : ToolFault → Type 0) (old new : List ℕ) (r : Reply) : Type 0 where
   pub why : ToolFault
   pub because : Why why
   pub room : new ≡ old
   pub reply : r ≡ refusal_reply why
 
--- the file of a text's specification is answered, or why there is none
+-- the reply has the file of the specification that the text spells, or says why there is none
 abbrev pub Compiles : List ℕ → (old new : List ℕ) → Reply → Type 0
 Compiles text old new r =
     ((bytes : List ℕ) × IsCompiled text bytes × Gives bytes old new r)
     ⊎ Refuses (IsUncompiled text) old new r
 
--- the filter is open, and keeps this code
+-- the filter is open, and has this code
 abbrev pub Keeps : Filter → Program → Type 0
 Keeps f p = (f.is_open ≡ true) × (f.code ≡ p)
 
--- the filter keeps the code, and the reply has its budget and its depth
+-- the filter has the code, and the reply has its budget and its depth
 pub record IsOpened (code : Program) (new : Filter) (r : Reply) : Type 0 where
   pub kept : Keeps new code
   pub budget : ℕ
@@ -75,18 +75,18 @@ pub record IsOpened (code : Program) (new : Filter) (r : Reply) : Type 0 where
   pub depth_is : IsDepth code depth
   pub reply : r ≡ bounds_reply budget depth
 
--- the filter is opened by the typed code that bytes are the file of; or it is closed, and why is replied
+-- the filter is opened with the typed code of which the bytes are the file; or it is closed, and the reply says why
 abbrev pub Loads : List ℕ → (new : Filter) → Reply → Type 0
 Loads bytes new r =
     ((code : Program) × IsLoaded bytes code × IsOpened code new r)
     ⊎ ((f : ToolFault) × IsUnloaded bytes f × (new.is_open ≡ false) × (r ≡ refusal_reply f))
 
--- what is answered on an object, or that nothing is
+-- the reply has the answer on an object, or says that there is none
 abbrev pub Tells : Option (List ℕ) → (old new : List ℕ) → Reply → Type 0
 Tells None old new r = (new ≡ old) × (r ≡ nothing_reply)
 Tells (Some bytes) old new r = Gives bytes old new r
 
--- the answer of code on the object that a text spells, or why the text spells none
+-- the reply has the answer of code on the object that the text spells, or says why the text spells none
 abbrev pub Answers : Program → List ℕ → (old new : List ℕ) → Reply → Type 0
 Answers p text old new r =
     ((answer : Option (List ℕ)) × IsAnswered p text answer × Tells answer old new r)

@@ -1,4 +1,4 @@
-//! The handle of a filter, which crosses to C.
+//! The handle of a filter, which is passed to C.
 ghost use Rattle.std.specs.Prelude.{◌≡◌, true, false};
 ghost use Rattle.std.specs.Coded.{codes};
 ghost use Rattle.term_core.specs.DatumCode.{datum_code};
@@ -11,12 +11,12 @@ use std::alloc::Global;
 use std::marker::Model;
 use std::ptr;
 
-/// A filter: open, and then it owns a box of verified code, or closed. One whose bytes are all 0 is closed. Who has it
-/// may neither copy it nor write into it, and passes it to one call at a time, all in one thread.
+/// A filter. If it is open, it owns a box of verified code. A filter whose bytes are all 0 is closed. The caller must
+/// not copy it or write to it, and passes it to one call at a time, always in the same thread.
 #[repr(C)]
 #[derive(Drop)]
 pub struct Filter {
-    /// The box, where the filter is open.
+    /// The box, if the filter is open.
     pub(crate) at: *mut u8,
     /// Whether it is open.
     pub(crate) is_open: bool,
@@ -29,7 +29,7 @@ impl Model for Filter {
 }
 
 impl Filter {
-    /// A closed filter.
+    /// Returns a closed filter.
     pub(crate) fn closed() -> Filter
         ensures { result.is_open ≡ false }
     {
@@ -39,7 +39,7 @@ impl Filter {
         }
     }
 
-    /// An open filter.
+    /// Returns an open filter that owns the box.
     pub(crate) fn of(loose: Loose<Loaded, Global>) -> Filter
         ensures { (result.is_open ≡ true) × (result.code ≡ loose.value) }
     {
@@ -50,7 +50,7 @@ impl Filter {
         }
     }
 
-    /// Whether it is open, and the filter.
+    /// Returns whether the filter is open, and the filter.
     pub(crate) fn told(self) -> (bool, Filter)
         ensures { (result.0 ≡ self.is_open) × (result.1 ≡ self) }
     {
@@ -58,7 +58,7 @@ impl Filter {
         (is_open, self)
     }
 
-    /// What an open filter owns.
+    /// Returns the box that an open filter owns.
     pub(crate) fn into_loose(self, alloc: Global) -> Loose<Loaded, Global>
         requires { self.is_open ≡ true }
         ensures { result.value ≡ self.code }

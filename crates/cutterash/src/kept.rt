@@ -1,10 +1,10 @@
-//! What an open table keeps.
+//! What an open table owns.
 use part_hash::HashPart;
 use part_order::OrderPart;
 use std::alloc::Global;
 use tool_script::Engine;
 
-/// An engine, as a type without parameters, of which a table may own a box: sets and bags are made of hashed parts,
+/// An engine, as a type without parameters, of which a table may own a box. Sets and bags are made of hashed parts,
 /// ordered sets of ordered ones.
 #[derive(Drop)]
 pub(crate) struct Kept {
@@ -16,7 +16,7 @@ impl Kept {
     ghost use Rattle.tool_script.specs.Engine.{IsIn, lines_of};
     ghost use Rattle.tool_script.specs.Script.{beginning};
 
-    /// What a table keeps that is opened.
+    /// Returns what a table has just after it is opened: an engine at its beginning.
     pub(crate) fn new(alloc: Global) -> Kept
         ensures state { IsIn result.engine beginning }
         ensures lines { lines_of result.engine ≡ [] }

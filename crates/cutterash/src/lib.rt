@@ -1,16 +1,17 @@
-//! Filters and tables for C and for what calls C. A match specification is compiled to a code file, a code file of a
-//! sender who isn't trusted is loaded or refused by number, and then runs on one object after the other. A table obeys
-//! texts of commands, as scripts have them, and answers the lines of their replies.
+//! Filters and tables for C and for languages that call C. A match specification is compiled to a code file. A code
+//! file from an untrusted sender is loaded, or rejected with an error code, and then run on one object after the other.
+//! A table obeys texts of commands, as scripts have them, and returns the lines of their replies.
 //!
-//! The contract is that of the exports. Each states what it replies (`specs/Calls.antt`, `specs/Tables.antt`,
-//! `specs/Reply.antt`): a refusal is an answer, with its number and its arguments, and so are want of memory, bytes
-//! without room and a handle that is closed. `include/cutterash.h` declares them for C; nothing compares the two.
+//! The contract is that of the exports. Each states its reply (`specs/Calls.antt`, `specs/Tables.antt`,
+//! `specs/Reply.antt`). The reply to a fault has its error code and its arguments; out of memory, a room that is too
+//! small and a closed handle are replies too. `include/cutterash.h` declares the exports for C; nothing compares the
+//! two.
 //!
-//! - `filter`, `table`: the handles that cross, and what they own, `specs/Held.antt`; `loaded`, `kept`: what an open
-//!   one keeps; `loose`: a box as its pointer. The functions that make a handle of a box and a box of a handle are
-//!   proved by hand.
-//! - `table_calls`: the exports for tables; those for filters stand here.
-//! - `text`: what calls do with texts; `reply`: what they reply.
+//! - `filter`, `table`: the handles that are passed to C, and what they own, `specs/Held.antt`; `loaded`, `kept`: what
+//!   an open handle owns; `loose`: a box as its pointer. The functions that turn a box into a handle and a handle into
+//!   a box are proved by hand.
+//! - `table_calls`: the exports for tables; those for filters are in this file.
+//! - `text`: what calls do with texts; `reply`: their replies.
 #![tactic(auto)]
 
 ghost use Rattle.std.specs.Prelude.{◌≡◌, ◌⊎◌, true, false};
@@ -37,8 +38,9 @@ use tool_io::ToolFault;
 use tool_query::load;
 use verifier::Verified;
 
-/// Compiles the specification that a text spells, with a dot behind it: its code file is put into the room. Status 0,
-/// 2, 3 or 4; where the file has no room, the reply has its length.
+/// Compiles the specification that a text spells, followed by a dot, and copies its code file into the room. The status
+/// is 0, or 2 if the text is rejected, 3 if memory runs out, or 4 if the room is too small; the reply then has the
+/// length of the file.
 #[unsafe(no_mangle)]
 pub extern "C" fn cutterash_compile(alloc: Global, text: &[u8], room: &mut [u8]) -> Reply
     ensures { Compiles text.now room.old room.new result }
@@ -49,8 +51,9 @@ pub extern "C" fn cutterash_compile(alloc: Global, text: &[u8], room: &mut [u8])
     }
 }
 
-/// Opens a filter by a code file: only code that is verified is kept. Status 0 with the budget and the depth of the
-/// code, 2 or 3. What the filter kept before is let go first, and a filter that isn't opened is closed.
+/// Opens a filter with a code file; only code that passes the verifier is accepted. The status is 0 with the budget and
+/// the depth of the code, 2 if the file is rejected, or 3 if memory runs out. What the filter had before is freed
+/// first. If the status is not 0, the filter is closed.
 #[unsafe(no_mangle)]
 pub extern "C" fn cutterash_load(alloc: Global, filter: &mut Filter, file: &[u8]) -> Reply
     ensures { Loads file.now filter.new result }
@@ -62,7 +65,7 @@ pub extern "C" fn cutterash_load(alloc: Global, filter: &mut Filter, file: &[u8]
     }
 }
 
-/// Opens a closed filter by code.
+/// Opens a closed filter with code. The filter stays closed if an allocation fails.
 fn open(alloc: Global, filter: &mut Filter, code: Verified) -> Reply
     requires { filter.old.is_open ≡ false }
     ensures { IsOpened code filter.new result
@@ -76,9 +79,10 @@ fn open(alloc: Global, filter: &mut Filter, code: Verified) -> Reply
     reply
 }
 
-/// Runs a filter on the object that a text spells, with a dot behind it: the text of its answer is put into the room,
-/// without a dot. Status 0, 1, 2, 3, 4 or 5; where the text has no room, the reply has its length. The filter keeps its
-/// code.
+/// Runs a filter on the object that a text spells, followed by a dot. Copies the text of the answer into the room,
+/// without a dot. The status is 0, or 1 if there is no answer, 2 if the text is rejected, 3 if memory runs out, 4 if
+/// the room is too small, or 5 if the filter is closed. For 4 the reply has the length of the text. The filter is
+/// unchanged.
 #[unsafe(no_mangle)]
 pub extern "C" fn cutterash_run(
     alloc: Global,
@@ -101,7 +105,7 @@ pub extern "C" fn cutterash_run(
     reply
 }
 
-/// What code answers on the object that a text spells.
+/// Returns the reply for the answer of code on the object that a text spells.
 fn answered(alloc: Global, code: &Verified, object: &[u8], room: &mut [u8]) -> Reply
     ensures { Answers code.now object.now room.old room.new result }
 {
@@ -112,7 +116,7 @@ fn answered(alloc: Global, code: &Verified, object: &[u8], room: &mut [u8]) -> R
     }
 }
 
-/// Closes a filter, and lets go what it keeps. One that is closed stays so.
+/// Closes a filter, and frees what it owns. A closed filter stays closed.
 #[unsafe(no_mangle)]
 pub extern "C" fn cutterash_close(alloc: Global, filter: &mut Filter)
     ensures { filter.new.is_open ≡ false }

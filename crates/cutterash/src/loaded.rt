@@ -1,4 +1,4 @@
-//! What an open filter keeps.
+//! What an open filter owns.
 use std::marker::Model;
 use verifier::Verified;
 
@@ -23,14 +23,14 @@ impl Model for Loaded {
 impl Loaded {
     ghost use Rattle.std.specs.Prelude.{◌≡◌};
 
-    /// What is kept of code.
+    /// Wraps verified code.
     pub(crate) fn new(code: Verified) -> Loaded
         ensures { result ≡ code }
     {
         Loaded { code }
     }
 
-    /// The code.
+    /// Returns the code.
     pub(crate) fn code(&self) -> &Verified
         ensures { result.now ≡ self.now }
     {

@@ -1,4 +1,4 @@
-//! The handle of a table, which crosses to C.
+//! The handle of a table, which is passed to C.
 ghost use Rattle.std.specs.Prelude.{◌≡◌, true, false};
 ghost use Rattle.cutterash.specs.Held.{held_table};
 ghost use Rattle.cutterash.specs.declared.kept.Kept.{Kept};
@@ -10,16 +10,16 @@ use std::alloc::Global;
 use std::marker::Model;
 use std::ptr;
 
-/// A table: open, and then it owns a box of an engine, or closed. One whose bytes are all 0 is closed. Who has it may
-/// neither copy it nor write into it, and passes it to one call at a time, all in one thread.
+/// A table. If it is open, it owns a box of an engine. A table whose bytes are all 0 is closed. The caller must not
+/// copy it or write to it, and passes it to one call at a time, always in the same thread.
 #[repr(C)]
 #[derive(Drop)]
 pub struct Table {
-    /// The box, where the table is open.
+    /// The box, if the table is open.
     pub(crate) at: *mut u8,
     /// Whether it is open.
     pub(crate) is_open: bool,
-    /// What an open table keeps.
+    /// What an open table owns.
     pub(crate) ghost kept: { Kept } by { kept_type.the_row.coded },
 }
 
@@ -28,7 +28,7 @@ impl Model for Table {
 }
 
 impl Table {
-    /// A closed table.
+    /// Returns a closed table.
     pub(crate) fn closed() -> Table
         ensures { result.is_open ≡ false }
     {
@@ -38,7 +38,7 @@ impl Table {
         }
     }
 
-    /// An open table.
+    /// Returns an open table that owns the box.
     pub(crate) fn of(loose: Loose<Kept, Global>) -> Table
         ensures { (result.is_open ≡ true) × (result.kept ≡ loose.value) }
     {
@@ -49,7 +49,7 @@ impl Table {
         }
     }
 
-    /// Whether it is open, and the table.
+    /// Returns whether the table is open, and the table.
     pub(crate) fn told(self) -> (bool, Table)
         ensures { (result.0 ≡ self.is_open) × (result.1 ≡ self) }
     {
@@ -57,7 +57,7 @@ impl Table {
         (is_open, self)
     }
 
-    /// What an open table owns.
+    /// Returns the box that an open table owns.
     pub(crate) fn into_loose(self, alloc: Global) -> Loose<Kept, Global>
         requires { self.is_open ≡ true }
         ensures { result.value ≡ self.kept }

@@ -1,4 +1,4 @@
-//! Tables for C: each obeys texts of commands, one after the other, and answers the lines of their replies.
+//! Tables for C: each obeys texts of commands, one after the other, and returns the lines of their replies.
 ghost use Rattle.std.specs.Prelude.{◌≡◌, true, false, MatchOption};
 ghost use Rattle.cutterash.specs.Reply.{Gives, closed_reply};
 ghost use Rattle.cutterash.specs.Tables.{Obeys, OpensTable};
@@ -13,7 +13,7 @@ use std::mem;
 use tool_io::ToolFault;
 use tool_script::Halt;
 
-/// Takes out what a table keeps, none where it is closed, and leaves a closed one.
+/// Takes what a table owns, and leaves it closed. Returns `None` if it was closed.
 fn take(alloc: Global, table: &mut Table) -> Option<Box<Kept, Global>>
     ensures closed { table.new.is_open ≡ false }
     ensures taken { MatchOption result (table.old.is_open ≡ false)
@@ -26,8 +26,8 @@ fn take(alloc: Global, table: &mut Table) -> Option<Box<Kept, Global>>
     Some(taken.into_loose(alloc).into_box())
 }
 
-/// Opens a table, at its beginning: no command was obeyed, and nothing was replied. Status 0 or 3. What it kept before
-/// is let go first, and one that isn't opened is closed.
+/// Opens a table at its beginning: no command was obeyed, and there are no replies. The status is 0, or 3 if memory
+/// runs out. What the table had before is freed first. If the status is 3, the table is closed.
 #[unsafe(no_mangle)]
 pub extern "C" fn cutterash_table_open(alloc: Global, table: &mut Table) -> Reply
     ensures { OpensTable table.new result }
@@ -40,11 +40,13 @@ pub extern "C" fn cutterash_table_open(alloc: Global, table: &mut Table) -> Repl
     done()
 }
 
-/// Obeys the commands that a text spells, each with a dot behind it: the lines of their replies are put into the room,
-/// and kept. Status 0, 2, 3, 4, 5 or 6. Where the lines have no room, the commands are obeyed all the same, the reply
-/// has their length, and `cutterash_table_replies` answers them. A text that is refused, or that there is no memory to
-/// read, changes nothing. Where memory runs out behind that, the table is at its beginning again, and keeps the lines
-/// of the replies before.
+/// Obeys the commands that a text spells, each followed by a dot. The lines of their replies are copied into the room,
+/// and the table keeps them until its next run. The status is 0, or 2 to 6 as below; it is 5 if the table is closed.
+///
+/// If the room is too small (4), the commands are obeyed all the same, the reply has the length of the lines, and
+/// `cutterash_table_replies` returns them. If the text is rejected (2), or memory runs out while it is read (3),
+/// nothing is changed. If memory runs out while the commands are obeyed (6), the table is at its beginning again, and
+/// has the lines of the replies before that.
 #[unsafe(no_mangle)]
 pub extern "C" fn cutterash_table_run(
     alloc: Global,
@@ -65,7 +67,7 @@ pub extern "C" fn cutterash_table_run(
     reply
 }
 
-/// Has an engine obey the commands that a text spells.
+/// Has an engine obey the commands that a text spells, and returns the reply.
 fn obeyed(alloc: Global, kept: &mut Kept, text: &[u8], room: &mut [u8]) -> Reply
     ensures { Obeys kept.old kept.new text.now room.old room.new result }
 {
@@ -76,8 +78,8 @@ fn obeyed(alloc: Global, kept: &mut Kept, text: &[u8], room: &mut [u8]) -> Reply
     }
 }
 
-/// Answers the lines that the table keeps, those of the replies of its last run, as often as it is asked. Status 0, 4
-/// or 5; where they have no room, the reply has their length.
+/// Copies into the room the lines of the replies of the table's last run. It can be called any number of times. The
+/// status is 0, 4 if the room is too small, or 5 if the table is closed. For 4 the reply has the length of the lines.
 #[unsafe(no_mangle)]
 pub extern "C" fn cutterash_table_replies(
     alloc: Global,
@@ -98,7 +100,7 @@ pub extern "C" fn cutterash_table_replies(
     reply
 }
 
-/// Closes a table, and lets go what it keeps. One that is closed stays so.
+/// Closes a table, and frees what it owns. A closed table stays closed.
 #[unsafe(no_mangle)]
 pub extern "C" fn cutterash_table_close(alloc: Global, table: &mut Table)
     ensures { table.new.is_open ≡ false }

@@ -11,7 +11,7 @@ use tool_io::ToolFault;
 use tool_query::{file_of, only, specification_of};
 use verifier::Verified;
 
-/// The terms of a text, each with a dot behind it, at least one.
+/// Returns the terms of a text, each followed by a dot, at least one.
 fn some_terms(alloc: Global, text: &[u8]) -> Result<Vec<Term>, ToolFault>
     ensures ok { IfOk result (λ terms. HasTerms text.now terms.items) }
     ensures refused { IfErr result (IsNoTerm text.now) }
@@ -26,7 +26,7 @@ fn some_terms(alloc: Global, text: &[u8]) -> Result<Vec<Term>, ToolFault>
     Ok(terms)
 }
 
-/// The code file of the specification that a text spells, with a dot behind it.
+/// Returns the code file of the specification that a text spells, followed by a dot.
 pub(crate) fn compiled(alloc: Global, text: &[u8]) -> Result<Vec<u8>, ToolFault>
     ensures ok { IfOk result (λ file. IsCompiled text.now file.items) }
     ensures refused { IfErr result (IsUncompiled text.now) }
@@ -38,7 +38,8 @@ pub(crate) fn compiled(alloc: Global, text: &[u8]) -> Result<Vec<u8>, ToolFault>
     Ok(file)
 }
 
-/// The text of what code answers on the object that a text spells, with a dot behind it.
+/// Returns the text of the answer of code on the object that a text spells, followed by a dot, or `None` if there is no
+/// answer.
 pub(crate) fn answer(
     alloc: Global,
     code: &Verified,

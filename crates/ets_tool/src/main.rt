@@ -1,6 +1,6 @@
 //! `ets_tool`: match specifications of ets over terms, from standard input to standard output.
 //!
-//! It is `run_program` of `tool_cli` on the words and the three streams that the process has.
+//! It calls `run_program` of `tool_cli` with the words and the three streams of the process.
 #![tactic(auto)]
 
 use std::io;

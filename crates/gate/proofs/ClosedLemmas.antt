@@ -1,4 +1,4 @@
--- Gates and their passes, taken from the end together.
+-- Gates and their passes, both taken from the end.
 use Rattle.std.proofs.Common.{◌≡◌, ◌<◌, ◌++◌, List, [], ◌∷◌, length, map, refl, ap, sym, ◌∙◌, arith, Option, Some, None, IsSome}
 use Rattle.std.specs.Option.{option_to_list}
 use Rattle.std.proofs.lemmas.Bool.{false≢true}
@@ -13,7 +13,7 @@ last_two (a ∷ xs) (b ∷ ys) x y e =
     let tail : xs ++ x ∷ [] ≡ ys ++ y ∷ [] = cc in
     let rest = last_two xs ys x y tail in ((λ i. head i ∷ rest.0 i), rest.1)
 
--- passes of as many gates
+-- there are as many passes as gates
 module _ {T G : Type 0} (f : T → G) (ps ps' : List T) (gs gs' : List G) (g : G) (made : map f ps ≡ gs) (gates : gs ≡ gs' ++ g ∷ []) where
   pub passes_left : 0 < length ps
   passes_left = omega (arith, length-map ps f, ap length made, ap length gates, length-append gs' (g ∷ []))

@@ -1,4 +1,4 @@
--- How histories go on, and whose entries stand in them.
+-- How histories are continued, and whose entries are in them.
 use Rattle.std.proofs.Common.{◌≡◌, ◌≢◌, ℕ, zero, suc, ◌+◌, map, arith, ◌⊎◌, inl, inr, ◌++◌, List, [], ◌∷◌, refl, ap, sym, ◌∙◌, Option, Some, None, ⊎_elim, ne_eqb}
 use Rattle.std.proofs.lemmas.List.{append-nil, append_assoc, append_cancel_left}
 use Rattle.std.proofs.lemmas.List.Elements.{filter-append}
@@ -7,16 +7,16 @@ use Rattle.part_core.specs.Acts.{Act, Answer, History}
 use Rattle.part_core.specs.Ops.{entries_of}
 use Rattle.gate.specs.Views.{own, GoesOn}
 
--- entries of others add none of one's own
+-- entries of other sessions add no own entries
 pub own_kept : (n : ℕ) (old more : History) → own n more ≡ [] → own n (old ++ more) ≡ own n old
 own_kept n old more none = filter-append _ old more ∙ ap (λ (es : History). own n old ++ es) none ∙ append-nil (own n old)
 
--- a turn's entry is none of another session's
+-- the entry of one session's turn is not an own entry of another session
 pub own_elsewhere : (n k : ℕ) (act : Act) (answer : Option Answer) → n ≢ k → own k (entries_of n act answer) ≡ []
 own_elsewhere n k act None apart = refl
 own_elsewhere n k act (Some answer) apart = rw (ne_eqb n k apart) refl
 
--- where all own entries were seen, none stands behind
+-- if all own entries were seen, none follows
 pub own_rest : (n : ℕ) (seen rest : History) → own n (seen ++ rest) ≡ own n seen → own n rest ≡ []
 own_rest n seen rest same = append_cancel_left (own n seen) (own n rest) [] (sym (filter-append _ seen rest) ∙ same ∙ sym (append-nil (own n seen)))
 

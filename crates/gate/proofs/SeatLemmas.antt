@@ -1,4 +1,4 @@
--- What stays true of the views of a gate when one changes, and when one comes.
+-- What stays true of the views of a gate when one changes or is added.
 use Rattle.std.proofs.Common.{◌≡◌, ◌≢◌, ℕ, zero, suc, ◌⊎◌, inl, inr, ◌++◌, List, [], ◌∷◌, length, set, refl, ap, sym, subst, ◌∙◌, ⊎_elim}
 use mathlib.Core.Option.{some, some-ne-none, some-injective}
 use lib.ListN.{get_elem?}
@@ -24,7 +24,7 @@ at_end (x ∷ xs) a b (suc j) e = ⊎_elim (λ (h : get_elem? xs j ≡ some b). 
 
 -- ---- one view changes
 
--- a view in the place of another
+-- one view is replaced by another
 module _ (views : List View) (id : ℕ) (v w : View) (at : get_elem? views id ≡ some v) where
   pub fit_set : (o : Settings) (log : History) → ((i : ℕ) (u : View) → i ≢ id → get_elem? views i ≡ some u → Fits o log u) → Fits o log w
       → AreFit o log (set views id w)
@@ -50,7 +50,7 @@ module _ (views : List View) (id : ℕ) (v w : View) (at : get_elem? views id �
       (λ (h : (i ≢ id) × (get_elem? views i ≡ some u)). others i u h.0 h.1 holds)
       (at_set views id i w u e)
 
-  -- who takes the part out is the only one that holds it
+  -- a session that takes the part out is the only one that holds it
   pub one_set : (log : History) → NobodyHolds views → Holds w.role → w.seen ≡ log → OneHolds log (set views id w)
   one_set log nobody holds seen = record {
     seat = id;
@@ -64,7 +64,7 @@ module _ (views : List View) (id : ℕ) (v w : View) (at : get_elem? views id �
         (at_set views id i w u e);
   }
 
-  -- another's change leaves the one that holds the part
+  -- the change of another view leaves the one that holds the part
   pub one_kept : (log : History) → OneHolds log views → ¬ (Holds v.role) → ¬ (Holds w.role) → OneHolds log (set views id w)
   one_kept log one before now =
       let apart : one.seat ≢ id = λ same. before (subst (λ (x : View). Holds x.role) (some-injective one.view v (sym one.there ∙ ap (get_elem? views) same ∙ at)) one.holds) in
@@ -80,7 +80,7 @@ module _ (views : List View) (id : ℕ) (v w : View) (at : get_elem? views id �
             (at_set views id i w u e);
       }
 
--- ---- one view comes
+-- ---- one view is added
 
 module _ (views : List View) (w : View) where
   pub fit_more : (o : Settings) (log : History) → AreFit o log views → Fits o log w → AreFit o log (views ++ w ∷ [])

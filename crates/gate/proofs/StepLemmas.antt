@@ -1,4 +1,4 @@
--- Each step keeps the gate's rule.
+-- Each step preserves the gate's rule.
 use Rattle.std.proofs.Common.{◌≡◌, ◌≢◌, ℕ, zero, suc, ◌==◌, ◌≤◌, ◌⊎◌, inl, inr, ◌++◌, List, [], ◌∷◌, set, refl, ap, sym, subst, ◌∙◌, arith, ⊎_elim, ne_eqb, MatchBool}
 use Rattle.std.specs.Prelude.{slice_set, slice_index}
 use mathlib.Core.Option.{none, some, some-ne-none, some-injective}
@@ -35,7 +35,7 @@ only_first : (v w : View) (i : ℕ) → get_elem? (v ∷ []) i ≡ some w → (i
 only_first v w zero e = (refl, some-injective v w e)
 only_first v w (suc i) e = absurd (some-ne-none w (sym e))
 
--- a try to take the part never leaves the word 0
+-- an attempt to take the part never leaves the word 0
 pub tried : (k : ℕ) → either (k == 0) 1 k ≢ 0
 tried k = exchanged k 0 1 (λ (x : ℕ). x ≢ 0) (λ same one. absurd (omega (arith, one))) (λ apart. apart)
 
@@ -52,7 +52,7 @@ module _ {P : Type 0} (settings : P → Settings) (IsAfter : P → History → T
   abbrev Place : State P View → History → Type 0
   Place s log = IsHome settings IsAfter o s log ⊎ IsOut settings IsAfter o s log
 
-  -- ---- a view changes, or comes, that holds nothing
+  -- ---- a view that holds nothing changes, or is added
 
   place_set : (s : State P View) (log : History) (id : ℕ) (v w : View) → get_elem? s.views id ≡ some v → ¬ (Holds v.role) → ¬ (Holds w.role)
       → Place s log → Place (with_views s (set s.views id w)) log

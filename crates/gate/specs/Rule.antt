@@ -1,4 +1,4 @@
--- What holds of a gate between any two steps: of its word, its slot and the views of all who step there.
+-- What holds of a gate between any two steps: of its word, its slot, and the views of all that make steps there.
 use Rattle.std.specs.Prelude.{ℕ, ◌≡◌, ◌≢◌, ◌≤◌, ◌⊎◌, [], ◌∷◌, List}
 use mathlib.Core.Option.{none, some}
 use lib.ListN.{get_elem?}
@@ -10,25 +10,25 @@ use Rattle.gate.specs.declared.view.Role.TheVariants.{Opener, Session, Holder, N
 use Rattle.gate.specs.declared.view.View.{View}
 use Rattle.gate.specs.Views.{own, GoesOn}
 
--- the sessions whose number stands in a view: the opener has those that no pass has been made for yet
+-- the sessions whose number is in a view: the opener has those for which no pass has been made yet
 abbrev pub Has : Role → ℕ → Type 0
 Has (Opener first) n = first ≤ n
 Has (Session k) n = k ≡ n
 Has (Holder k) n = k ≡ n
 Has Note n = ⊥
 
--- the one who has taken the part out
+-- the view is that of a session that has taken the part out
 abbrev pub Holds : Role → Type 0
 Holds (Holder k) = Unit {0}
 Holds other = ⊥
 
--- the session of a view, 0 where it has none
+-- the session of a view, 0 if it has none
 abbrev pub number_of : Role → ℕ
 number_of (Session k) = k
 number_of (Holder k) = k
 number_of other = 0
 
--- Views at the opening, of a session that has seen so much, of one that holds the part, and of a note.
+-- Views of the opener, of a session that has seen a history, and of a session that holds the part.
 abbrev pub opener : Settings → ℕ → View
 opener o first = record { settings = o; role = Opener first; seen = []; told = [] }
 
@@ -38,28 +38,29 @@ seer v log = record { settings = v.settings; role = Session (number_of v.role); 
 abbrev pub holder : View → History → View
 holder v log = record { settings = v.settings; role = Holder (number_of v.role); seen = log; told = v.told }
 
--- A view is true to the part's history: who has a number knows what is settled, what was seen and what was told of
--- begin the history, and each session whose number stands in the view has all its entries in what was seen.
+-- A view is true to the part's history. A view with a session's number has the part's settings. The history begins with
+-- what was seen (`seen`), and with what another session's note showed (`told`). Each session whose number is in the
+-- view has all its entries in what was seen.
 pub record Fits (o : Settings) (log : History) (v : View) : Type 0 where
   pub knows : (n : ℕ) → Has v.role n → v.settings ≡ o
   pub seen : GoesOn v.seen log
   pub told : GoesOn v.told log
   pub whole : (n : ℕ) → Has v.role n → own n log ≡ own n v.seen
 
--- all views are
+-- all views are true to the part's history
 abbrev pub AreFit : Settings → History → List View → Type 0
 AreFit o log views = (i : ℕ) (v : View) → get_elem? views i ≡ some v → Fits o log v
 
--- each session's number stands in one view at most
+-- each session's number is in at most one view
 abbrev pub AreApart : List View → Type 0
 AreApart views = (i j : ℕ) (v w : View) (n : ℕ) → get_elem? views i ≡ some v → get_elem? views j ≡ some w
     → Has v.role n → Has w.role n → i ≡ j
 
--- nobody has taken the part out
+-- no session has taken the part out
 abbrev pub NobodyHolds : List View → Type 0
 NobodyHolds views = (i : ℕ) (v : View) → get_elem? views i ≡ some v → ¬ (Holds v.role)
 
--- exactly one has, who has seen the whole history
+-- exactly one session has taken the part out, and it has seen the whole history
 pub record OneHolds (log : History) (views : List View) : Type 0 where
   pub seat : ℕ
   pub view : View
@@ -86,7 +87,7 @@ module _ {P : Type 0} (settings : P → Settings) (IsAfter : P → History → T
     pub slot : s.homes ≡ none ∷ []
     pub one : OneHolds log s.views
 
-  -- all views are true to one history, each session's number stands in one of them, and the part is at home or out
+  -- all views are true to one history, each session's number is in at most one of them, and the part is at home or out
   pub record IsKept (s : State P View) (log : History) : Type 0 where
     pub fit : AreFit o log s.views
     pub apart : AreApart s.views

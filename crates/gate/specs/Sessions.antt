@@ -8,7 +8,7 @@ use Rattle.gate.specs.Views.{Ticket, IsTurn, ticket_with}
 abbrev pub AllLegal : List Ticket → Type 0
 AllLegal passes = (k : ℕ) (pass : Ticket) → slice_get passes k ≡ Some pass → IsLegal pass.settings pass.log
 
--- a turn with the pass of one part, the others staying as they are
+-- a turn with the pass of one part, with the other passes unchanged
 pub record IsTurnAt (old : List Ticket) (part : ℕ) (act : Act) (answer : Option Answer) (new : List Ticket) : Type 0 where
   pub pass : Ticket
   pub there : slice_get old part ≡ Some pass

@@ -1,4 +1,4 @@
--- What a session sees of a part's history, and how it grows.
+-- What a session sees of a part's history, and how this grows.
 use Rattle.std.specs.Prelude.{ℕ, ◌≡◌, ◌==◌, Option, filter, [], ◌++◌}
 use Rattle.atomic_table.specs.Seated.{TableId}
 use Rattle.part_core.specs.declared.settings.Settings.{Settings}
@@ -10,16 +10,16 @@ use Rattle.part_core.specs.Ops.{entries_of}
 abbrev pub own : ℕ → History → History
 own n log = filter (λ e. e.session == n) log
 
--- a history that begins with another
+-- the second history begins with the first
 abbrev pub GoesOn : History → History → Type 0
 GoesOn old new = (rest : History) × (new ≡ old ++ rest)
 
--- a gate, by what no other gate shares with it
+-- the identity of a gate, which no other gate shares with it
 abbrev pub GateId : Type 0
 GateId = TableId
 
--- A session's pass: the gate that it was made with, what is settled of the part there, the session's number, and the
--- history of the part up to the session's last turn.
+-- A session's pass: the gate that it was made with, the part's settings, the session's number, and the history of the
+-- part up to the session's last turn.
 pub record Ticket : Type 0 where
   pub gate : GateId
   pub settings : Settings
@@ -34,15 +34,16 @@ ticket_with t log = record { gate = t.gate; settings = t.settings; number = t.nu
 abbrev pub first_ticket : GateId → Settings → ℕ → Ticket
 first_ticket gate o n = record { gate = gate; settings = o; number = n; log = [] }
 
--- A turn, as the history tells it: behind what the pass had seen stand entries of other sessions, and then the turn's,
--- if it was answered; for want of memory there is none. The whole is legal.
+-- A turn, in terms of the history: what the pass had seen is followed by entries of other sessions, and then by the
+-- turn's entry. If the turn ran out of memory, it has no entry. The whole history is legal.
 pub record IsTurn (o : Settings) (n : ℕ) (old : History) (act : Act) (answer : Option Answer) (new : History) : Type 0 where
   pub between : History
   pub others : own n between ≡ []
   pub grown : new ≡ (old ++ between) ++ entries_of n act answer
   pub legal : IsLegal o new
 
--- A part is left as by a history that begins with what a pass had seen, and has just these entries of its session.
+-- The part is in the state after a history that begins with what a pass had seen, and has no further entries of the
+-- pass's session.
 pub record IsLeft {P : Type 0} (IsAfter : P → History → Type 0) (n : ℕ) (seen : History) (part : P) : Type 0 where
   pub log : History
   pub goes_on : GoesOn seen log

@@ -21,7 +21,7 @@ use std::marker::{Brand, Model};
 use std::snapshot::Snapshot;
 use std::sync::Wait;
 
-/// How often a session looks for the part before it parks.
+/// How many times a session looks for the part before it parks.
 const LOOKS: u32 = 1_000;
 
 /// Where the part is at home: its slot, and the word that says whether it is there.
@@ -30,7 +30,8 @@ pub(crate) struct Home<P: Part<A> + Drop, A: Allocator> {
     table: Table<P, View, Snapshot<P>, GateRule<A>, A>,
 }
 
-/// The gate of one part: sessions on threads of their own take the part out, do one operation on it and put it back.
+/// The gate of one part: sessions, each on a thread of its own, take the part out, perform one operation on it, and put
+/// it back.
 #[derive(Drop)]
 pub struct Gate<P: Part<A> + Drop, A: Allocator = Global> {
     home: Box<Home<P, A>, A>,
@@ -51,7 +52,7 @@ impl<P: Part<A> + Drop, A: Allocator> Model for Gate<P, A> {
 }
 
 impl<P: Part<A> + Drop, A: Allocator> Gate<P, A> {
-    /// Tries for a while to take the part out.
+    /// Tries to take the part out, up to 1,000 times. Returns whether it did.
     fn take_soon(&self, seat: &mut Seat<P, View>, _number: u8) -> bool
         requires { (seat.old.table_id ≡ self.now) × (seat.old.me.0.role ≡ Session _number) × (seat.old.me.1 ≡ []) }
         ensures seat { seat.new.table_id ≡ seat.old.table_id }
@@ -88,7 +89,8 @@ impl<P: Part<A> + Drop, A: Allocator> Gate<P, A> {
         unreachable!()
     }
 
-    /// Does an operation on the part that was taken out, and counts the session's fixes behind it.
+    /// Performs an operation on the part that was taken out. Returns its result, and the session's count of fixes after
+    /// it.
     fn operate<'a>(
         &self,
         seat: &mut Seat<P, View>,
@@ -114,7 +116,7 @@ impl<P: Part<A> + Drop, A: Allocator> Gate<P, A> {
         (answer, fixes)
     }
 
-    /// Puts the part back, and wakes a thread that may wait for it.
+    /// Puts the part back, and wakes a thread that may be waiting for it.
     fn put_back<'a, E: Adds>(
         &self,
         seat: &mut Seat<P, View>,
@@ -135,7 +137,7 @@ impl<P: Part<A> + Drop, A: Allocator> Gate<P, A> {
         }
     }
 
-    /// A pass for the next session.
+    /// Makes a pass for the next session.
     fn next_pass(&self, seat: &mut Seat<P, View>, number: u8) -> Pass<P>
         requires gate { seat.old.table_id ≡ self.now }
         requires opener { (seat.old.me.0 ≡ opener seat.old.me.0.settings number) × (seat.old.me.1 ≡ []) }
@@ -151,8 +153,9 @@ impl<P: Part<A> + Drop, A: Allocator> Gate<P, A> {
         }
     }
 
-    /// Takes the part out, does an operation on it for the session and puts it back. Waits while other sessions have
-    /// it. What is refused stays as it was, and want of memory leaves no entry.
+    /// Takes the part out, performs an operation on it for the session, and puts it back. Waits while another session
+    /// has it. If the operation fails, `op` and the part are as they were; running out of memory leaves no entry in the
+    /// history.
     pub fn turn<'a, R: Wait>(
         &self,
         rt: &R,
@@ -177,7 +180,7 @@ impl<P: Part<A> + Drop, A: Allocator> Gate<P, A> {
         answer
     }
 
-    /// Of what two sessions have seen of the part, one begins with the other. Waits for nobody.
+    /// Shows that of what two sessions have seen of the part, one begins with the other. It never waits.
     pub fn meet(&self, one: &mut Pass<P>, other: &mut Pass<P>)
         requires { (one.old.gate ≡ self.now) × (other.old.gate ≡ self.now) }
         ensures same { (one.new ≡ one.old) × (other.new ≡ other.old) }
@@ -189,7 +192,7 @@ impl<P: Part<A> + Drop, A: Allocator> Gate<P, A> {
         shared.load::<Compare>(&mut other.seat, 0);
     }
 
-    /// Gives the gate up, and the part out. Refused where a session has taken it out and never put it back.
+    /// Closes the gate, and returns the part. Fails if a session has taken it out and never put it back.
     pub fn close(self, pass: Pass<P>) -> Result<P, Lost>
         requires { pass.gate ≡ self }
         ensures { IfOk result (λ part. (P.settings part ≡ pass.settings)
@@ -205,7 +208,8 @@ impl<P: Part<A> + Drop, A: Allocator> Gate<P, A> {
 }
 
 impl<P: Part<A> + Drop, A: Allocator + Copy> Gate<P, A> {
-    /// A gate over a part in its opening state, and a pass for each of its sessions, by their numbers.
+    /// Makes a gate over a part in its opening state, and a pass for each of its sessions, in the order of their
+    /// numbers. Fails if an allocation fails.
     pub fn new(alloc: A, part: P, sessions: u8) -> Result<(Self, Vec<Pass<P>, A>), AllocError>
         requires sessions { (P.settings part).sessions ≡ sessions }
         requires opening { P.is_after part [] }
@@ -223,7 +227,7 @@ impl<P: Part<A> + Drop, A: Allocator + Copy> Gate<P, A> {
         Ok((gate, passes))
     }
 
-    /// A pass for each session.
+    /// Makes a pass for each session, in the order of their numbers. Fails if an allocation fails.
     fn passes(
         &self,
         alloc: A,

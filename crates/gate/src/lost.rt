@@ -1,4 +1,4 @@
-//! A part that can't be had back.
+//! A part that can't be returned.
 use thiserror::Error;
 
 /// A session has taken the part out and never put it back.

@@ -35,7 +35,7 @@ impl<P> Model for Pass<P> {
 }
 
 impl<P> Pass<P> {
-    /// How often the session fixes the part, after its last turn.
+    /// Returns how many times the session fixes the part, after its last turn.
     pub fn fixes(&self) -> u16
         ensures { result ≡ fix_count self.now.number self.now.log }
     {

@@ -1,4 +1,4 @@
-//! The rule of a gate, and what its steps tell.
+//! The rule of a gate, and what its steps return.
 use crate::view::View;
 use atomic_table::{Join, Play, Split, TableRule};
 use part_core::Part;
@@ -6,8 +6,8 @@ use std::alloc::Allocator;
 use std::marker::{Brand, PhantomData};
 use std::snapshot::Snapshot;
 
-/// The word is 0 while the part is at home in the slot, 1 while it is out, and 2 while it is out and a thread may wait
-/// for it.
+/// The rule of a gate. The word is 0 while the part is at home in the slot. It is 1 while the part is out, and 2 while
+/// it is out and a thread may wait for it.
 pub struct GateRule<A> {
     parts: PhantomData<A>,
 }
@@ -20,7 +20,7 @@ impl<A: Allocator, P: Part<A>> TableRule<P, View, Snapshot<P>> for GateRule<A> {
     ghost first = { λ made. opener (P.settings made.value) 0 };
 }
 
-/// A try to take the part.
+/// A step that tries to take the part out.
 pub struct Take<A> {
     parts: PhantomData<A>,
 }
@@ -31,7 +31,7 @@ impl<A: Allocator, P: Part<A>> Play<P, View> for Take<A> {
     ghost then = { Takes P.settings P.is_after };
 }
 
-/// What is added to the part's history.
+/// A type that stands for the entries that are added to the part's history when it is put back.
 pub trait Adds {
     ghost use Rattle.part_core.specs.Acts.{History};
 
@@ -44,7 +44,7 @@ impl Adds for Brand {
     ghost more = { [] };
 }
 
-/// The part is put back with more in its history.
+/// A step that puts the part back with more entries in its history.
 pub struct PutBack<E: Adds> {
     more: PhantomData<E>,
 }
@@ -55,7 +55,7 @@ impl<P, E: Adds> Play<P, View> for PutBack<E> {
     ghost then = { PutsBack E.more };
 }
 
-/// A look that compares what was seen with what was told of.
+/// A step that compares what a session has seen with what another session's note showed.
 pub struct Compare;
 
 impl<P> Play<P, View> for Compare {
@@ -64,7 +64,7 @@ impl<P> Play<P, View> for Compare {
     ghost then = { Compares };
 }
 
-/// A pass for the next session.
+/// The split of the opener's seat that makes a pass for the next session.
 pub struct NextPass;
 
 impl Split<View> for NextPass {
@@ -75,7 +75,7 @@ impl Split<View> for NextPass {
     ghost right = { first_view };
 }
 
-/// A note of what a session has seen.
+/// The split that makes a note of what a session has seen, and the join that hands it to another session.
 pub struct TakeNote;
 
 impl Split<View> for TakeNote {

@@ -16,15 +16,17 @@ use std::sync::Wait;
 /// A session of a table, for one thread.
 #[derive(Drop)]
 pub struct Session<P, A: Allocator = Global> {
-    /// Its number.
+    /// The session's number, from 0.
     pub number: u8,
-    /// Its passes, by the numbers of the parts.
+    /// The session's passes, by the numbers of the parts.
     pub passes: Vec<Pass<P>, A>,
     ghost legal: { AllLegal passes.items } by { Prim.hlevel all_legal_prop },
 }
 
 impl<P: Part<A> + Drop, A: Allocator> Session<P, A> {
-    /// Does an operation at a part.
+    /// Performs an operation at a part: takes it out through its gate, and puts it back. Waits while another session
+    /// has it. If the operation fails, `op` and the part are as they were; running out of memory leaves no entry in the
+    /// history.
     pub fn turn<'a, R: Wait>(
         &mut self,
         rt: &R,
@@ -44,7 +46,7 @@ impl<P: Part<A> + Drop, A: Allocator> Session<P, A> {
         gate.turn(rt, &mut self.passes[usize::from(part)], op)
     }
 
-    /// Compares with another session what they have seen of a part.
+    /// Compares what this session and another have seen of a part: one of the two histories begins with the other.
     pub fn meet_at(&mut self, other: &mut Session<P, A>, gate: &Gate<P, A>, part: u8)
         requires made { (pass : Ticket) × (slice_get self.old.passes.items part ≡ Some pass) × (pass.gate ≡ gate.now) }
         requires other_made { (pass : Ticket) × (slice_get other.old.passes.items part ≡ Some pass) × (pass.gate ≡ gate.now) }
@@ -59,7 +61,7 @@ impl<P: Part<A> + Drop, A: Allocator> Session<P, A> {
         );
     }
 
-    /// Gives the session its pass at the next part, which has seen nothing.
+    /// Adds the session's pass for the next part, which has seen nothing. Fails if an allocation fails.
     pub fn give(&mut self, pass: Pass<P>) -> Result<(), AllocError>
         requires { pass.log ≡ [] }
         ensures number { self.new.number ≡ self.old.number }

@@ -2,26 +2,26 @@
 use part_core::{Entry, Settings};
 use std::collections::LinkedList;
 
-/// Who knows it.
+/// The role of the seat that has a view.
 pub enum Role {
-    /// The one who makes the passes: of the sessions from this number on, none has one yet.
+    /// The opener, which makes the passes: of the sessions from this number on, none has one yet.
     Opener(u8),
     /// A session, by its number.
     Session(u8),
     /// A session that has taken the part out.
     Holder(u8),
-    /// Nobody: a note of what a session has seen.
+    /// No session: a note of what a session has seen.
     Note,
 }
 
-/// What a seat at the gate knows, as the gate's rule sees it. No value of it is ever made.
+/// What a seat at the gate knows, in terms of the gate's rule. No value of this type is ever created.
 pub struct View {
-    /// What is settled of the part.
+    /// The settings of the part.
     pub settings: Settings,
-    /// Who knows it.
+    /// The role of the seat.
     pub role: Role,
-    /// The part's history as far as it was seen.
+    /// The part's history as far as this seat has seen it.
     pub seen: LinkedList<Entry>,
-    /// What another session has seen, as far as this one was told.
+    /// The part's history as far as another session has seen it, taken from a note of that session.
     pub told: LinkedList<Entry>,
 }

@@ -1,4 +1,4 @@
--- Cells: which are free, and which read.
+-- Cells: which are free, and what is read from them.
 use Rattle.std.proofs.Common.{◌≡◌, ℕ, suc, ◌+◌, ◌<◌, Bool, true, false, cond, if◌then◌else◌, nat_le, List, [], ◌∷◌, length, get_or, sym, ap, subst, ◌∙◌, refl, arith, true≢false}
 use borrow.Author.Tests.{leb-true, leb-false}
 use native.Mathlib.Decide.{dec_lt}
@@ -12,7 +12,7 @@ use Rattle.hash_index.specs.Index.{Holds}
 abbrev pub the_cell : ℕ → ℕ → Cell
 the_cell mixed at = record { mixed = mixed; at = at }
 
--- a row is at the cell, under a mixed hash
+-- a row is in the cell, under a mixed hash
 abbrev pub IsOf : Cell → ℕ → Type 0
 IsOf cell mixed = IsTaken cell × (cell.mixed ≡ mixed)
 
@@ -36,7 +36,7 @@ taken_goes_on c t = ap (λ b. if b then nat_le c.mixed 0 else false) (taken_is c
 pub not_end : (c : Cell) → is_end c ≡ true → is_end c ≡ false → ⊥
 not_end c e on = true≢false (sym e ∙ on)
 
--- a cell is within where it is taken, since what is past the end reads as free
+-- a cell that is taken is within the list, since what is past the end reads as free
 pub taken_within : (cells : List Cell) (i : ℕ) → IsTaken (cell_at cells i) → i < length cells
 taken_within cells i t =
     elim (dec_lt i (length cells)) [
@@ -44,11 +44,11 @@ taken_within cells i t =
       | no n ↦ absurd (let past = get_or_past cells i free_cell (omega arith) in omega (arith, ap (λ (c : Cell). c.at) past))
     ]
 
--- what is read within is the cell there, whatever the default
+-- what is read within the list is the cell there, whatever the default
 pub read : (cells : List Cell) (i : ℕ) (d : Cell) → i < length cells → get_or cells i d ≡ cell_at cells i
 read cells i d within = get_or_default cells i d free_cell within
 
--- a row that is read
+-- a row that is read is in the cells
 pub holds_read : (cells : List Cell) (i : ℕ) (d : Cell) (mixed : ℕ) → i < length cells → IsOf (get_or cells i d) mixed
     → Holds cells mixed (get_or cells i d).at i
 holds_read cells i d mixed within of = record {
@@ -56,7 +56,7 @@ holds_read cells i d mixed within of = record {
   taken = of.0;
 }
 
--- where a row stands, its cell is taken
+-- the cell where a row is, is taken
 pub taken_holds : (cells : List Cell) (mixed at i : ℕ) → Holds cells mixed at i → IsTaken (cell_at cells i)
 taken_holds cells mixed at i h = subst (λ (c : Cell). IsTaken c) (sym h.cell) h.taken
 
@@ -70,7 +70,7 @@ counted c e = ap one_if e
 pub not_counted : (c : Cell) → is_free c ≡ false → one_if (is_free c) ≡ 0
 not_counted c e = ap one_if e
 
--- a free cell is somewhere where some are counted
+-- some cell is free if the count of free cells is above 0
 abbrev pub HasFree : List Cell → Type 0
 HasFree cells = (i : ℕ) × (i < length cells) × (is_free (cell_at cells i) ≡ true)
 

@@ -1,4 +1,4 @@
--- The hole that a row leaves, and the rows that move into it.
+-- The hole that a removed row leaves, and the rows that move into it.
 use Rattle.std.proofs.Common.{◌≡◌, ◌≢◌, ℕ, ◌+◌, ◌<◌, ◌≤◌, ◌⊎◌, inl, inr, min, true, false, List, length, set, sym, ap, subst, ◌∙◌, refl, arith}
 use native.Mathlib.Decide.{ℕ_discrete, dec_lt}
 use Rattle.std.specs.List.{count_by}
@@ -11,17 +11,17 @@ use Rattle.hash_index.proofs.Cells.{taken_within, taken_is, taken_goes_on, not_e
 use Rattle.hash_index.proofs.Distances.{apart, home_within, distance_self, distance_one, distance_next, next_within}
 use Rattle.hash_index.proofs.Writes.{Writes, writes_set, fewer_free, more_free, as_free, passed_along}
 
--- how many cells a search passes, among n cells
+-- the number of cells that a search passes, among n cells
 abbrev pub way : ℕ → List Cell → ℕ → ℕ → ℕ
 way n cells i to = distance n (home n (cell_at cells i).mixed) to
 
--- what is less than the lesser of two is less than the first
+-- what is less than the minimum of two numbers is less than the first
 pub lesser : (n most looked end : ℕ) → end ≡ min n most → looked < end → looked < n
 lesser n most looked end is less = omega (arith, clamps)
 
 -- ---- distances alone
 module _ (n : ℕ) where
-  -- another place is some cells away
+  -- the distance to another position is above 0
   pub away : (from to : ℕ) → from < n → to < n → to ≢ from → 0 < distance n from to
   away from to in_from in_to other =
       elim (dec_lt 0 (distance n from to)) [
@@ -30,7 +30,7 @@ module _ (n : ℕ) where
             (let self = distance_self n from in_from in omega arith))))
       ]
 
-  -- what is behind the hole by less than the row is on the way from the hole to the row
+  -- what follows the hole by less than the row does is on the path from the hole to the row
   pub between : (start hole pos i : ℕ) → start < n → hole < n → pos < n → i < n
       → distance n start hole < distance n start i → distance n hole pos < distance n hole i
       → distance n start pos < distance n start i
@@ -42,7 +42,7 @@ module _ (n : ℕ) where
       let e = apart n hole i in_hole in
       omega arith
 
-  -- a place on the way to another is at least as far before it as the two are apart
+  -- a position on the path to another is at least as far before it as the two are apart
   pub on_the_way : (start hole i : ℕ) → start < n → hole < n → i < n → distance n start hole < distance n start i
       → distance n hole i ≤ distance n start i
   on_the_way start hole i in_start in_hole in_i first =
@@ -51,7 +51,7 @@ module _ (n : ℕ) where
       let c = apart n hole i in_hole in
       omega arith
 
-  -- a search comes to the hole first where it passes as many cells as the hole is behind
+  -- a search reaches the hole first if it passes at least as many cells as the hole is before the position
   module _ (start hole pos : ℕ) (in_start : start < n) (in_hole : hole < n) (in_pos : pos < n) where
     pub comes_first : 0 < distance n hole pos → distance n hole pos ≤ distance n start pos → distance n start hole < distance n start pos
     comes_first some far =
@@ -67,7 +67,7 @@ module _ (n : ℕ) where
         let c = apart n hole pos in_hole in
         omega arith
 
--- ---- where a row stood before
+-- ---- where a row was before
 pub moved_whole : (cells new : List Cell) (gone : ℕ) (cell : Cell) → Writes cells new gone cell → (IsTaken cell → ⊥) → AreMoved cells new gone
 moved_whole cells new gone cell w empty = record {
   kept = λ j other taken. (j, w.others j other);
@@ -76,7 +76,7 @@ moved_whole cells new gone cell w empty = record {
       (i, other, w.others i other);
 }
 
--- what is taken out is no longer there, and all else is
+-- what is removed is no longer there, and all else is
 pub takes_from : (old new : List Cell) (pos at : ℕ) → AreFound old → IsTaken (cell_at old pos) → (cell_at old pos).at ≡ at
     → AreMoved old new pos → Takes old new at
 takes_from old new pos at found taken is moved = record {
@@ -103,7 +103,7 @@ pub record Closes (n longest : ℕ) (old now : List Cell) (gone hole pos looked 
   pub far : looked < n → distance n gone pos ≡ looked
   pub found : AreFound now
   pub near : AreNear now longest
-  -- rows whose search comes to the hole are as far behind it as the walk is
+  -- rows whose search reaches the hole first are at least as far after it as the walk is
   pub behind : looked < n → (i : ℕ) → IsTaken (cell_at now i) → way n now i hole < way n now i i
       → distance n hole pos ≤ distance n hole i
   pub moved : AreMoved old now gone
@@ -115,7 +115,7 @@ no_row t = omega arith
 no_row_free : IsTaken free_cell → ⊥
 no_row_free t = omega arith
 
--- rows are found still where a cell without one is written at a place that no search for another row passes, or past
+-- rows are still found if a cell without a row is written at a position that no search for another row passes, or past
 -- which searches go on
 module _ (cells new : List Cell) (at : ℕ) (cell : Cell) (w : Writes cells new at cell) (empty : IsTaken cell → ⊥) where
   emptied_apart : (i : ℕ) → IsTaken (cell_at new i) → i ≢ at
@@ -156,7 +156,7 @@ module _ (cells new : List Cell) (at : ℕ) (cell : Cell) (w : Writes cells new 
     within = subst (λ n. longest ≤ n) (sym w.count) near.within;
   }
 
--- it begins behind what is taken out
+-- the walk begins at the cell after the one that is removed
 pub closes_first : (n longest : ℕ) (old : List Cell) (gone to : ℕ) → length old ≡ n → IsTaken (cell_at old gone)
     → AreFound old → AreNear old longest → IsNext n gone to → Closes n longest old (set old gone tombstone) gone gone to 1
 closes_first n longest old gone to count taken found near next =
@@ -191,11 +191,11 @@ module _ (n longest : ℕ) (old now : List Cell) (gone hole pos looked : ℕ) (s
   in_now : (i : ℕ) → IsTaken (cell_at now i) → i < n
   in_now i t = subst (λ k. i < k) s.count (taken_within now i t)
 
-  -- how far a search goes, among as many cells as there are
+  -- the length of a search, among the same number of cells
   as_passed : (i x : ℕ) → way n now i x ≡ way (length now) now i x
   as_passed i x = λ k. distance (sym s.count k) (home (sym s.count k) (cell_at now i).mixed) x
 
-  -- what the walk answers, where no search comes to the hole
+  -- the result of the walk if no search reaches the hole first
   module _ (none : (i : ℕ) → IsTaken (cell_at now i) → way n now i hole < way n now i i → ⊥) where
     freed_hole : Writes now (set now hole free_cell) hole free_cell
     freed_hole = writes_set now hole free_cell (subst (λ k. hole < k) (sym s.count) s.in_hole)
@@ -246,14 +246,14 @@ module _ (n longest : ℕ) (old now : List Cell) (gone hole pos looked : ℕ) (s
         let some = ahead.0 in
         omega arith
 
-    -- another place is further ahead
+    -- any other position at least as far from the hole is further
     further : (i : ℕ) → i < n → i ≢ pos → distance n hole pos ≤ distance n hole i → distance n hole pos < distance n hole i
     further i in_i other least = elim (dec_lt (distance n hole pos) (distance n hole i)) [
       | yes l ↦ l
       | no m ↦ absurd (other (sym (distance_one n hole s.in_hole pos i s.in_pos in_i (omega arith))))
     ]
 
-    -- no search comes to the hole where searches end at the place that the walk has come to
+    -- no search reaches the hole first if searches end at the position that the walk has come to
     pub none_past_end : is_end (cell_at now pos) ≡ true → (i : ℕ) → IsTaken (cell_at now i) → way n now i hole < way n now i i → ⊥
     none_past_end ends i t first =
         let i_in = in_now i t in
@@ -267,7 +267,7 @@ module _ (n longest : ℕ) (old now : List Cell) (gone hole pos looked : ℕ) (s
         let by_i = as_passed i i in
         not_end (cell_at now pos) ends (s.found.reached i pos t (subst (λ k. pos < k) (sym s.count) s.in_pos) (omega arith))
 
-    -- none does where the hole is as far behind as the longest search goes
+    -- no search reaches the hole first if the walk is as far past the hole as the longest search goes
     pub none_so_far : longest ≤ distance n hole pos → (i : ℕ) → IsTaken (cell_at now i) → way n now i hole < way n now i i → ⊥
     none_so_far far i t first =
         let i_in = in_now i t in
@@ -284,7 +284,7 @@ module _ (n longest : ℕ) (old now : List Cell) (gone hole pos looked : ℕ) (s
           let far = s.far on in
           distance_next n gone s.in_gone pos to s.in_pos next (omega arith) ∙ ap (λ d. d + 1) far
 
-      -- what is at pos stays, since no search for it comes to the hole
+      -- what is at pos stays, since no search for it reaches the hole first
       pub closes_stays : (IsTaken (cell_at now pos) → way n now pos pos ≤ way n now pos hole)
           → Closes n longest old now gone hole to (looked + 1)
       closes_stays stays = record {
@@ -337,7 +337,7 @@ module _ (n longest : ℕ) (old now : List Cell) (gone hole pos looked : ℕ) (s
         not_pos : (i : ℕ) → IsTaken (cell_at new i) → i ≢ pos
         not_pos i t is = no_row (subst (λ (c : Cell). IsTaken c) (ap (cell_at new) is ∙ last_write.here) t)
 
-        -- where what stands at a place now stood before
+        -- where what is now at a position was before
         stood : (i : ℕ) → IsTaken (cell_at new i) → (j : ℕ) × IsTaken (cell_at now j) × (cell_at new i ≡ cell_at now j)
             × (((i ≡ hole) × (j ≡ pos)) ⊎ ((i ≢ hole) × (j ≡ i)))
         stood i t = elim (ℕ_discrete i hole) [

@@ -1,10 +1,10 @@
--- Distances of a search, as facts on plain numbers.
+-- Distances of a search, as facts about plain numbers.
 use Rattle.std.proofs.Common.{◌≡◌, ℕ, ◌+◌, ◌-◌, ◌<◌, ◌≤◌, ◌⊎◌, inl, inr, Bool, true, false, if◌then◌else◌, nat_le, arith, refl}
 use borrow.Author.Tests.{leb-true, leb-false}
 use lib.Bits.{and_le_r}
 use Rattle.hash_index.specs.Cells.{IsNext, distance, home}
 
--- a place is further on, or is reached from the last one on
+-- d is the distance from one position to another, which is further on or is reached past the last one
 abbrev pub Apart : ℕ → ℕ → ℕ → ℕ → Type 0
 Apart count from to d = ((from ≤ to) × (d + from ≡ to)) ⊎ ((to < from) × (d + from ≡ to + count))
 
@@ -28,11 +28,11 @@ module _ (count start : ℕ) (within : start < count) where
   pub distance_within : (to : ℕ) → to < count → distance count start to < count
   distance_within to in_to = omega (arith, apart count start to within)
 
-  -- no two places are as far
+  -- no two positions have the same distance from the start
   pub distance_one : (a b : ℕ) → a < count → b < count → distance count start a ≡ distance count start b → a ≡ b
   distance_one a b in_a in_b e = omega (arith, apart count start a within, apart count start b within)
 
-  -- one step further
+  -- the next position is one step further
   pub distance_next : (pos to : ℕ) → pos < count → IsNext count pos to → distance count start pos + 1 < count
       → distance count start to ≡ distance count start pos + 1
   distance_next pos to in_pos next less = omega (arith, apart count start pos within, apart count start to within)

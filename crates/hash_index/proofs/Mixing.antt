@@ -1,4 +1,4 @@
--- All rows put into new cells, one after the other.
+-- All rows inserted into new cells, one after the other.
 use Rattle.std.proofs.Common.{◌≡◌, ℕ, zero, suc, ◌+◌, ◌*◌, ◌/◌, ◌<◌, ◌≤◌, max, inl, inr, true, List, ◌∷◌, length, drop, replicate, sym, ap, subst, refl, arith, length-drop, Result, Ok, Err}
 use native.Mathlib.Decide.{dec_lt}
 use Rattle.std.specs.List.{count_by}
@@ -41,7 +41,7 @@ all_free (suc n) =
     = sum_by-cons (λ (x : Cell). one_if (is_free x)) free_cell (replicate n free_cell) in
     omega (arith, all_free n)
 
--- ---- an index that keeps no more than three quarters has free cells
+-- ---- an index that is at most three quarters full has free cells
 pub some_free : (n left free : ℕ) → n + left ≡ n / 4 * 3 + free → 0 < n + left → 0 < free
 some_free n left free load some = omega arith
 
@@ -82,7 +82,7 @@ module _ (R : Cell → ℕ → Type 0) where
   }
 
   module _ (old now : List Cell) (room longest i : ℕ) (s : Mixing old now room longest i) (within : i < length old) where
-    -- a free cell has no row to be put in
+    -- a free cell has no row to insert
     pub mixing_skip : is_free (cell_at old i) ≡ true → Mixing old now room longest (i + 1)
     mixing_skip free =
         let sum = free_behind old i within in
@@ -170,7 +170,7 @@ module _ (R : Cell → ℕ → Type 0) where
         let whole = s.within in
         omega arith
 
--- ---- what the closure gave
+-- ---- what the closure returned
 mixed_weaker : (R S : ℕ → ℕ → ℕ → Type 0) (old new : List Cell) → AreMixed R old new → ((m a n : ℕ) → R m a n → S m a n) → AreMixed S old new
 mixed_weaker R S old new mixed by = record {
   kept = λ m a has. let to = mixed.kept m a has in (to.0, by m a to.0 to.1, to.2);

@@ -40,7 +40,7 @@ module _ (P : Cell → Type 0) where
       }
 
 module _ (cells : List Cell) (start : ℕ) (in_start : start < length cells) where
-  -- the first free cell, behind taken ones alone
+  -- the first free cell, after cells that are all taken
   module _ (passed pos : ℕ) (s : Missed IsTaken cells start passed pos) where
     pub first_free : passed < length cells → is_free (cell_at cells pos) ≡ true → IsFirstFree cells start pos
     first_free on free = record {
@@ -49,7 +49,7 @@ module _ (cells : List Cell) (start : ℕ) (in_start : start < length cells) whe
       before = λ e in_e l. s.missed e in_e (let f = s.far on in omega arith);
     }
 
-    -- where a search has passed all cells, none is free
+    -- if a search has passed all cells, none is free
     pub none_free : length cells ≤ passed → (e : ℕ) → e < length cells → is_free (cell_at cells e) ≡ true → ⊥
     none_free over e in_e free =
         let far = distance_within (length cells) start in_start e in_e in
@@ -77,7 +77,7 @@ module _ (cells : List Cell) (start : ℕ) (in_start : start < length cells) whe
       row_missed miss = subst M (ap (λ (c : Cell). c.at) has.1.cell) (miss (row_taken, row_is))
 
     module _ (passed pos : ℕ) (s : Missed MissedRow cells start passed pos) where
-      -- a search that ends has missed all rows
+      -- a search that ends has missed all rows under the mixed hash
       pub missed_at_end : passed < length cells → AreFound cells → is_end (cell_at cells pos) ≡ true
           → (at : ℕ) → HasIn cells mixed at → M at
       missed_at_end on found ends at has =
@@ -96,7 +96,7 @@ module _ (cells : List Cell) (start : ℕ) (in_start : start < length cells) whe
             ])
           ]
 
-      -- a search as long as the longest for a row has missed all rows
+      -- a search as long as the longest for a row has missed all rows under the mixed hash
       pub missed_all : (longest : ℕ) → longest ≤ passed → AreNear cells longest → (at : ℕ) → HasIn cells mixed at → M at
       missed_all longest over near at has =
           let i = has.0 in

@@ -1,4 +1,4 @@
--- A write to one cell, and a row that is put in.
+-- A write to one cell, and the insertion of a row.
 use Rattle.std.proofs.Common.{◌≡◌, ◌≢◌, ℕ, ◌+◌, ◌<◌, max, inl, inr, true, false, List, length, set, sym, ap, subst, ◌∙◌, arith, length-set}
 use native.Mathlib.Decide.{ℕ_discrete}
 use Rattle.std.specs.List.{count_by}
@@ -12,7 +12,7 @@ use Rattle.hash_index.specs.Kept.{AreFound, AreNear, IsFirstFree}
 use Rattle.hash_index.proofs.Cells.{the_cell, one_if, counted, not_counted, not_both, taken_goes_on, taken_holds}
 use Rattle.hash_index.proofs.Distances.{home_within, distance_within}
 
--- the cell at one place is another, and the other cells are as they were
+-- the cell at one position is another, and the other cells are as they were
 pub record Writes (old new : List Cell) (at : ℕ) (cell : Cell) : Type 0 where
   pub count : length new ≡ length old
   pub here : cell_at new at ≡ cell
@@ -25,7 +25,7 @@ writes_set cells at cell within = record {
   others = λ i other. get_or-set_other cells at i cell free_cell other;
 }
 
--- one cell more or less is free
+-- the count of free cells changes by what the old and the new cell add to it
 free_sum : (cells : List Cell) (at : ℕ) (cell : Cell) → at < length cells
     → count_by is_free (set cells at cell) + one_if (is_free (cell_at cells at)) ≡ count_by is_free cells + one_if (is_free cell)
 free_sum cells at cell within = sum_by-set (λ (x : Cell). one_if (is_free x)) cells at cell free_cell within
@@ -54,13 +54,13 @@ as_free cells at cell within was now =
     let one = counted cell now in
     omega arith
 
--- the way of a search among as many cells to what stands at a place
+-- a search passes as many cells to what is at a position in lists of the same length
 pub passed_along : (old new : List Cell) (i j to : ℕ) → length new ≡ length old → cell_at new i ≡ cell_at old j
     → passed new i to ≡ passed old j to
 passed_along old new i j to count is =
     λ k. distance (count k) (home (count k) (is k).mixed) to
 
--- a row that is put in at the first free cell from its home on
+-- a row that is inserted at the first free cell from its home on
 module _ (old new : List Cell) (mixed at pos : ℕ) (low : at < free) (found : AreFound old)
     (first : IsFirstFree old (home (length old) mixed) pos) (absent : (m : ℕ) → HasIn old m at → ⊥)
     (w : Writes old new pos (the_cell mixed at)) where
@@ -70,7 +70,7 @@ module _ (old new : List Cell) (mixed at pos : ℕ) (low : at < free) (found : A
   taken_here : IsTaken (cell_at new pos)
   taken_here = taken_holds new mixed at pos held
 
-  -- no row at another place has the number
+  -- no row at another position has the number
   apart_from : (i : ℕ) → (cell_at old i).at ≡ at → ⊥
   apart_from i is = absent (cell_at old i).mixed (
     i,

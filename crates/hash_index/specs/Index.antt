@@ -1,17 +1,17 @@
--- What a hash index holds, and what its calls do to that.
+-- What a hash index contains, and what its methods do to that.
 use Rattle.std.specs.Prelude.{◌≡◌, ◌≢◌, ℕ, ◌<◌, ◌⊎◌, List, length}
 use Rattle.hash_index.specs.declared.cell.Cell.{Cell}
 use Rattle.hash_index.specs.Cells.{free, cell_at, home, distance}
 
--- the cells as they stand; nothing that a call ensures speaks of their order
+-- the cells of an index; no contract says anything of their order
 abbrev pub cells : List Cell × ℕ → List Cell
 cells index = index.0
 
--- how many more rows can be put in with no growth
+-- how many more rows can be inserted without growth
 abbrev pub room : List Cell × ℕ → ℕ
 room index = index.1
 
--- the row `at` stands at the place i, with its mixed hash
+-- the row `at` is at position i, with its mixed hash
 pub record Holds (cells : List Cell) (mixed at i : ℕ) : Type 0 where
   pub cell : cell_at cells i ≡ record { mixed = mixed; at = at }
   pub taken : at < free
@@ -20,16 +20,16 @@ pub record Holds (cells : List Cell) (mixed at i : ℕ) : Type 0 where
 abbrev pub HasIn : List Cell → ℕ → ℕ → Type 0
 HasIn cells mixed at = (i : ℕ) × Holds cells mixed at i
 
--- the row `at` is there under a mixed hash
+-- the row `at` is in the index under a mixed hash
 abbrev pub Has : List Cell × ℕ → ℕ → ℕ → Type 0
 Has index mixed at = HasIn (cells index) mixed at
 
--- how many cells a search for the mixed hash of the row `at` passes before it comes to the row
+-- the number of cells that a search for the mixed hash of the row `at` passes before it reaches the row
 abbrev pub Passing : List Cell → ℕ → ℕ → ℕ → Type 0
 Passing cells mixed at passed =
     (i : ℕ) × Holds cells mixed at i × (passed ≡ distance (length cells) (home (length cells) mixed) i)
 
--- the row `at` is there now under a mixed hash, beside what was there, and nothing else is
+-- the row `at` is there now under a mixed hash, in addition to what was there, and nothing else is
 pub record Puts (old new : List Cell) (mixed at : ℕ) : Type 0 where
   pub here : HasIn new mixed at
   pub kept : (m a : ℕ) → HasIn old m a → HasIn new m a

@@ -1,4 +1,4 @@
-//! All rows put into new cells.
+//! Rebuilding an index: all rows are inserted into new cells.
 ghost use Rattle.std.specs.Prelude.{◌≡◌, ℕ, ◌+◌, ◌*◌, ◌/◌, ◌^◌, ◌<◌, ◌≤◌, length, count_by, replicate, IfOk};
 ghost use Rattle.hash_index.specs.Cells.{free_cell, is_free};
 ghost use Rattle.hash_index.specs.Index.{AreMixed, HasIn};
@@ -8,20 +8,21 @@ use crate::cell::{Cell, free_cell};
 use crate::search::put_cell;
 use std::alloc::{AllocError, Allocator};
 
-/// How many cells there are at first.
+/// The number of cells of the first allocation.
 const FEWEST_CELLS: usize = 8;
 
-/// How many cells there are at most: a mixed hash of 32 bits leads to no further one.
+/// The greatest number of cells: a mixed hash of 32 bits leads to no further cell.
 const MOST_CELLS: usize = 1 << 32;
 
-/// How many rows so many cells take in: more than three quarters make searches long.
+/// Returns how many rows fit into `count` cells: three quarters of the cells, since a fuller index makes searches long.
 pub(crate) fn most_rows(count: usize) -> usize
     ensures { result ≡ count / 4 * 3 }
 {
     count / 4 * 3
 }
 
-/// How many cells there are when all rows are put in anew: as many where there is room, and else twice as many.
+/// Returns the number of cells for a rebuilt index: `count` if `left`, the number of further rows that have room, is
+/// above 0, and else twice as many, at least 8. Fails if that would be more than 2^32 cells.
 pub(crate) fn count_anew(count: usize, left: usize) -> Result<usize, AllocError>
     ensures { (free : ℕ) → count + left ≡ count / 4 * 3 + free → IfOk result (λ anew. count < anew / 4 * 3 + free) }
 {
@@ -34,7 +35,7 @@ pub(crate) fn count_anew(count: usize, left: usize) -> Result<usize, AllocError>
     Ok(FEWEST_CELLS.max(2 * count))
 }
 
-/// So many free cells.
+/// Returns `count` free cells. Fails if an allocation fails.
 pub(crate) fn free_cells<A: Allocator>(alloc: A, count: usize) -> Result<Vec<Cell, A>, AllocError>
     ensures { IfOk result (λ cells. cells.items ≡ replicate count free_cell) }
 {
@@ -43,8 +44,8 @@ pub(crate) fn free_cells<A: Allocator>(alloc: A, count: usize) -> Result<Vec<Cel
     Ok(cells)
 }
 
-/// Puts all rows into free cells, each under the mixed hash that it is to have. Answers how many more have room, and at
-/// how many cells the longest search for a row looks.
+/// Inserts all rows of `old` into `cells`, which are all free, each under the mixed hash that `mixed_of` returns for
+/// its cell. Returns how many more rows have room, and the number of cells that the longest search for a row examines.
 pub(crate) fn put_all<F: Fn(Cell) -> u32>(
     cells: &mut [Cell],
     old: &[Cell],

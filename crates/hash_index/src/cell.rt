@@ -1,8 +1,8 @@
-//! Cells, and the way that a search takes through them.
+//! Cells, and the path of a search through them.
 ghost use Rattle.std.specs.Prelude.{◌≡◌, ◌<◌};
 ghost use Rattle.hash_index.specs.Cells.{IsNext, distance, free_cell, home, is_end, is_free, tombstone};
 
-/// The number of a free cell. No row has it.
+/// The row number of a free cell. No row has it.
 const FREE: u32 = u32::MAX;
 
 /// Where a row is: its mixed hash and its number.
@@ -10,18 +10,19 @@ const FREE: u32 = u32::MAX;
 pub struct Cell {
     /// The mixed hash, whose low bits say where a search for the row begins.
     pub mixed: u32,
-    /// The row's number, or `u32::MAX` where the cell is free.
+    /// The row's number, or `u32::MAX` if the cell is free.
     pub at: u32,
 }
 
-/// A free cell, at which searches end.
+/// Returns a free cell, at which searches end.
 pub(crate) fn free_cell() -> Cell
     ensures { result ≡ free_cell }
 {
     Cell { mixed: 0, at: FREE }
 }
 
-/// A free cell that searches go on past: a row behind it may have passed the row that was there.
+/// Returns a tombstone: a free cell that searches go past, because a row after it may have passed the row that was
+/// there.
 pub(crate) fn tombstone() -> Cell
     ensures { result ≡ tombstone }
 {
@@ -29,14 +30,14 @@ pub(crate) fn tombstone() -> Cell
 }
 
 impl Cell {
-    /// Whether no row is at the cell.
+    /// Returns whether no row is in the cell.
     pub(crate) fn is_free(self) -> bool
         ensures { result ≡ is_free self }
     {
         self.at == FREE
     }
 
-    /// Whether searches end at the cell.
+    /// Returns whether searches end at the cell: it is free, and no tombstone.
     pub(crate) fn is_end(self) -> bool
         ensures { result ≡ is_end self }
     {
@@ -44,7 +45,8 @@ impl Cell {
     }
 }
 
-/// The place where a search for a mixed hash begins, among so many cells.
+/// Returns the position, among `count` cells, where a search for a mixed hash begins: the low bits of the hash, since
+/// `count` is a power of two.
 pub(crate) fn home(count: usize, mixed: u32) -> usize
     requires { 0 < count }
     ensures value { result ≡ home count mixed }
@@ -53,7 +55,7 @@ pub(crate) fn home(count: usize, mixed: u32) -> usize
     mixed as usize & (count - 1)
 }
 
-/// The place behind one, among so many cells.
+/// Returns the position after `pos` among `count` cells; after the last comes the first.
 pub(crate) fn next(count: usize, pos: usize) -> usize
     requires { pos < count }
     ensures { IsNext count pos result }
@@ -61,7 +63,7 @@ pub(crate) fn next(count: usize, pos: usize) -> usize
     if pos + 1 < count { pos + 1 } else { 0 }
 }
 
-/// How many cells a search that begins at one place passes before it comes to another, among so many.
+/// Returns how many cells a search that begins at `from` passes before it reaches `to`, among `count` cells.
 pub(crate) fn distance(count: usize, from: usize, to: usize) -> usize
     requires from { from < count }
     requires to { to < count }

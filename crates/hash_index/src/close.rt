@@ -1,5 +1,6 @@
-//! A row taken out. The rows behind it whose search passed it move forward, so that searches stay short however many
-//! rows come and go; where these are very many, a tombstone is left behind the first of them.
+//! Removing a row. The rows after it whose search passed it move forward, so that searches stay short however many rows
+//! come and go. Where very many rows follow, only the first of them are examined, and the hole then remains as a
+//! tombstone.
 ghost use Rattle.std.specs.Prelude.{◌≡◌, ℕ, ◌+◌, ◌<◌, length, count_by};
 ghost use Rattle.hash_index.specs.Cells.{IsTaken, cell_at, distance, is_free};
 ghost use Rattle.hash_index.specs.Index.{HasIn, Takes};
@@ -8,10 +9,10 @@ ghost use Rattle.hash_index.specs.Kept.{AreFound, AreMoved, AreNear, IsFilled, m
 use crate::cell::{Cell, distance, free_cell, home, next, tombstone};
 use crate::search::place_of;
 
-/// At how many cells a deletion looks at most.
+/// The number of steps after which a deletion stops moving rows and leaves a tombstone.
 const MOST_CLOSED: usize = 40;
 
-/// Moves what stands at one place to another, and leaves a hole.
+/// Moves the content of one cell to the cell `hole`, and leaves a tombstone where it was.
 fn move_into(cells: &mut [Cell], from: usize, hole: usize)
     requires from { from < length cells.old }
     requires hole { hole < length cells.old }
@@ -21,8 +22,9 @@ fn move_into(cells: &mut [Cell], from: usize, hole: usize)
     cells[from] = tombstone();
 }
 
-/// Moves the row at a place, if there is one, into the hole where a search for it comes to the hole first: where it
-/// passes as many cells as the hole is behind. Answers where the hole is now.
+/// Moves the row at `pos`, if there is one, into the hole if a search for the row reaches the hole first, i.e. if it
+/// passes at least as many cells as the hole is before `pos`. Returns where the hole is now: `pos` if the row moved,
+/// else `hole`.
 fn fill(cells: &mut [Cell], hole: usize, pos: usize) -> usize
     requires hole { hole < length cells.old }
     requires pos { pos < length cells.old }
@@ -43,9 +45,9 @@ fn fill(cells: &mut [Cell], hole: usize, pos: usize) -> usize
     hole
 }
 
-/// Takes out what stands at a place. The rows behind it close the hole, up to a cell at which searches end, or until
-/// the hole is so far behind that no search is long enough to have passed it. Where neither comes soon, the hole is a
-/// tombstone from then on, as it was all the while.
+/// Removes the row at `gone`. The rows after it close the hole, up to a cell at which searches end. They also stop once
+/// the hole is so far back that no search is long enough to have passed it. Then the hole becomes a free cell. If
+/// neither comes within 39 cells, the hole remains a tombstone.
 fn close(cells: &mut [Cell], longest: usize, gone: usize)
     requires gone { IsTaken (cell_at cells.old gone) }
     requires found { AreFound cells.old }
@@ -70,7 +72,8 @@ fn close(cells: &mut [Cell], longest: usize, gone: usize)
     }
 }
 
-/// Takes a row out that is there under a mixed hash.
+/// Removes the row `at` that is in the cells under the mixed hash `mixed`. `longest` is a bound of the cells that a
+/// search examines.
 pub(crate) fn take_cell(cells: &mut [Cell], longest: usize, mixed: u32, at: usize)
     requires there { HasIn cells.old mixed at }
     requires found { AreFound cells.old }

@@ -1,4 +1,4 @@
-//! Where rows are, found by their mixed hashes.
+//! An index that finds row numbers by mixed hashes.
 ghost use Rattle.std.specs.Prelude.{◌≡◌, ℕ, ◌+◌, ◌-◌, ◌^◌, ◌<◌, true, false, IfSome, IfNone, OnOk, OnErr};
 ghost use Rattle.hash_index.specs.Index.{AreMixed, AreSame, Has, Passing, Puts, Takes, cells, room};
 
@@ -9,15 +9,15 @@ use crate::search::{find_cell, put_cell};
 use std::alloc::{AllocError, Allocator};
 use std::marker::Model;
 
-/// The numbers of rows, each under a mixed hash: a function of the row's key that the caller knows. Rows are found in
-/// about the same time however many there are, as long as not too many have mixed hashes that are alike in their low
-/// bits; `put` tells how long a search has become.
+/// A hash index: the numbers of rows, each under a mixed hash, which is a function of the row's key that the caller
+/// knows. Finding a row takes about the same time however many rows there are, unless many mixed hashes agree in their
+/// low bits; the result of `put` shows how long a search has become.
 #[derive(Drop)]
 pub struct HashIndex<A: Allocator> {
     cells: Vec<Cell, A>,
-    // How many more rows can be put in.
+    // How many more rows can be inserted without growth.
     left: usize,
-    // At how many cells a search looks at most before it has come to its row.
+    // The greatest number of cells that a search examines before it reaches its row.
     longest_probe: usize,
 }
 
@@ -37,7 +37,7 @@ impl<A: Allocator> Model for HashIndex<A> {
 }
 
 impl<A: Allocator> HashIndex<A> {
-    /// An index with no rows. It takes no memory.
+    /// Returns an index with no rows. It does not allocate.
     pub fn new(alloc: A) -> Self
         ensures { (mixed at : ℕ) → Has result mixed at → ⊥ }
     {
@@ -48,8 +48,8 @@ impl<A: Allocator> HashIndex<A> {
         }
     }
 
-    /// The number of a row under a mixed hash that `eq` takes for the one. Where no such row is taken for it, there is
-    /// none.
+    /// Returns the number of a row under the mixed hash `mixed` for which `eq` returns `true`, or `None` if there is no
+    /// such row.
     #[inline(always)]
     pub fn find<F: Fn(usize) -> bool>(&self, mixed: u32, eq: F) -> Option<usize>
         requires { (at : ℕ) → Has self.now mixed at → F.pre eq at }
@@ -62,7 +62,8 @@ impl<A: Allocator> HashIndex<A> {
         }
     }
 
-    /// Makes room for one more row.
+    /// Makes room for one more row: grows the index if it has none. If an allocation fails, returns an error, and the
+    /// index is unchanged.
     pub fn reserve(&mut self) -> Result<(), AllocError>
     where
         A: Copy,
@@ -76,8 +77,9 @@ impl<A: Allocator> HashIndex<A> {
         self.put_anew(|cell| cell.mixed)
     }
 
-    /// Puts a row in under its mixed hash, where there is room. Answers how many cells a search for it passes: where
-    /// they are many, the caller may mix all hashes anew, in another way. It takes no memory.
+    /// Inserts the row `at` (below 2^32 - 1) under the mixed hash `mixed`. The index must have room, and must not
+    /// contain the row. Returns how many cells a search for the row passes: if they are many, the caller may mix all
+    /// hashes in another way. It does not allocate.
     pub fn put(&mut self, mixed: u32, at: usize) -> usize
         requires at { at < 2 ^ 32 - 1 }
         requires room { 0 < room self.old }
@@ -92,7 +94,7 @@ impl<A: Allocator> HashIndex<A> {
         passed
     }
 
-    /// Takes a row out that is there under a mixed hash. It takes no memory.
+    /// Removes the row `at`, which is in the index under the mixed hash `mixed`. It does not allocate.
     pub fn take(&mut self, mixed: u32, at: usize)
         requires { Has self.old mixed at }
         ensures takes { Takes (cells self.old) (cells self.new) at }
@@ -102,7 +104,8 @@ impl<A: Allocator> HashIndex<A> {
         self.left += 1;
     }
 
-    /// Puts each row under the mixed hash that `mixed_of` now gives for it, with room for one more.
+    /// Rebuilds the index with each row under the mixed hash that `mixed_of` returns for its number, with room for at
+    /// least one more row. If an allocation fails, returns an error, and the index is unchanged.
     pub fn mix<F: Fn(usize) -> u32>(&mut self, mixed_of: F) -> Result<(), AllocError>
     where
         A: Copy,
@@ -119,7 +122,8 @@ impl<A: Allocator> HashIndex<A> {
         )
     }
 
-    /// Puts all rows into new cells, each under the mixed hash that `mixed_of` gives for its cell.
+    /// Inserts all rows into new cells, each under the mixed hash that `mixed_of` returns for its cell. If an
+    /// allocation fails, returns an error, and the index is unchanged.
     fn put_anew<F: Fn(Cell) -> u32>(&mut self, mixed_of: F) -> Result<(), AllocError>
     where
         A: Copy,

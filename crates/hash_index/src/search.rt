@@ -1,4 +1,4 @@
-//! A row looked for, and a row put in.
+//! Searching for a row, and inserting one.
 ghost use Rattle.std.specs.Prelude.{◌≡◌, ℕ, ◌+◌, ◌-◌, ◌^◌, ◌<◌, true, false, length, count_by, max, IfSome, IfNone};
 ghost use Rattle.hash_index.specs.Cells.{cell_at, is_free};
 ghost use Rattle.hash_index.specs.Index.{HasIn, Holds, Passing, Puts};
@@ -6,8 +6,8 @@ ghost use Rattle.hash_index.specs.Kept.{AreFound, AreNear, IsFirstFree};
 
 use crate::cell::{Cell, distance, home, next};
 
-/// The place of a row under a mixed hash that `eq` takes for the one. A search looks at no more cells than the longest
-/// one for a row does.
+/// Returns the position of a row under the mixed hash `mixed` for whose number `eq` returns `true`, or `None` if there
+/// is none. Examines at most `longest` cells, since no search for a row is longer.
 #[inline(always)]
 pub(crate) fn find_cell<F: Fn(usize) -> bool>(
     cells: &[Cell],
@@ -43,7 +43,8 @@ pub(crate) fn find_cell<F: Fn(usize) -> bool>(
     None
 }
 
-/// The place of a row that is there under a mixed hash. Its number alone tells the row from others.
+/// Returns the position of the row `at`, which is in the cells under the mixed hash `mixed`. The row's number alone
+/// identifies it.
 pub(crate) fn place_of(cells: &[Cell], longest: usize, mixed: u32, at: usize) -> usize
     requires there { HasIn cells.now mixed at }
     requires found { AreFound cells.now }
@@ -61,7 +62,7 @@ pub(crate) fn place_of(cells: &[Cell], longest: usize, mixed: u32, at: usize) ->
     unreachable!()
 }
 
-/// The first free place from one on.
+/// Returns the first position from `start` on whose cell is free. Some cell must be free.
 fn free_from(cells: &[Cell], start: usize) -> usize
     requires start { start < length cells.now }
     requires free { 0 < count_by is_free cells.now }
@@ -78,7 +79,8 @@ fn free_from(cells: &[Cell], start: usize) -> usize
     unreachable!()
 }
 
-/// Puts a row in under its mixed hash, where a cell is free. Answers how many cells were passed.
+/// Inserts the row `at` under the mixed hash `mixed` into the first free cell from the hash's home on. Some cell must
+/// be free. Returns how many taken cells a search for the row passes.
 pub(crate) fn put_cell(cells: &mut [Cell], mixed: u32, at: u32) -> usize
     requires at { at < 2 ^ 32 - 1 }
     requires free { 0 < count_by is_free cells.old }

@@ -1,7 +1,7 @@
-//! What calls of functions give, with operands in each form.
+//! The results of calls of functions, with operands in each form.
 //!
-//! An operand is tried as the term that it is; as a plain integer or truth value, where it is one; and as the rest of a
-//! list that is all of it, where it is a list. A number says the forms of up to three operands.
+//! An operand is tried as the term itself; as a plain integer or truth value, if it is one; and as the rest of a list
+//! that is all of it, if it is a list. A number encodes the forms of up to three operands, in base 3.
 use kit_rows::{Outcome, canonical, elements, fields, is_atom, number, primitive, tagged, word};
 use prims::call;
 use prims_table::{Function, Gives, Primitive};
@@ -10,16 +10,16 @@ use std::cmp::Ordering;
 use term_core::{Term, View};
 use term_operand::Operand;
 
-/// In how many forms three operands are tried.
+/// The number of forms in which three operands are tried.
 pub(crate) const FORMS: usize = 27;
 
-/// In how many forms two operands are tried.
+/// The number of forms in which two operands are tried.
 pub(crate) const FORMS_OF_TWO: usize = 9;
 
-/// In how many forms one operand is tried.
+/// The number of forms in which one operand is tried.
 pub(crate) const FORMS_OF_ONE: usize = 3;
 
-/// An integer or a truth value as one, another term as it stands.
+/// Returns an integer or a truth value as a plain operand, and any other term as a term.
 fn plain_operand(term: &Term) -> Operand<'_> {
     let whole = Operand::Term(term);
     match (whole.integer(), whole.boolean()) {
@@ -29,7 +29,7 @@ fn plain_operand(term: &Term) -> Operand<'_> {
     }
 }
 
-/// The operand that a term is in the form of this number.
+/// Returns a term as an operand in the form with this number.
 pub(crate) fn operand(term: &Term, form: usize) -> Operand<'_> {
     match (form % 3, term.view()) {
         (1, _) => plain_operand(term),
@@ -38,7 +38,7 @@ pub(crate) fn operand(term: &Term, form: usize) -> Operand<'_> {
     }
 }
 
-/// The operands that these terms are in the forms of this number.
+/// Returns these terms as operands in the forms with this number.
 pub(crate) fn operands(alloc: Global, terms: &[Term], forms: usize) -> Option<Vec<Operand<'_>>> {
     let mut operands = Vec::new(alloc);
     let mut left = forms;
@@ -49,17 +49,18 @@ pub(crate) fn operands(alloc: Global, terms: &[Term], forms: usize) -> Option<Ve
     Some(operands)
 }
 
-/// Whether an operand is no part of a term.
+/// Returns whether an operand is a plain value, and no part of a term.
 fn is_plain(operand: Operand<'_>) -> bool {
     matches!(operand, Operand::Int(_) | Operand::Bool(_))
 }
 
-/// Whether a function gives one of its operands.
+/// Returns whether the result of a function is one of its operands.
 fn is_extreme(function: Primitive) -> bool {
     matches!(function, Primitive::Function(Function::Extreme(_)))
 }
 
-/// Whether an operand is as the function gives it: plain where it was computed, and not where it was taken from a term.
+/// Returns whether an operand has the form of a result of this function: plain if it was computed, and not plain if it
+/// was taken from a term.
 pub(crate) fn is_in_form(function: Primitive, operand: Operand<'_>) -> bool {
     match function.gives() {
         Gives::Boolean => matches!(operand, Operand::Bool(_)),
@@ -68,7 +69,7 @@ pub(crate) fn is_in_form(function: Primitive, operand: Operand<'_>) -> bool {
     }
 }
 
-/// The function of `Name`, with so many arguments, or of `{Name,Arguments}`.
+/// Returns the function with this name, which is `Name` with this number of arguments, or `{Name,Arguments}`.
 fn function(named: &Term, arguments: usize) -> Option<Primitive> {
     match fields(named) {
         Some([name, count]) => primitive(name, number(count)? as usize),
@@ -76,7 +77,7 @@ fn function(named: &Term, arguments: usize) -> Option<Primitive> {
     }
 }
 
-/// The text of a pair of a word and the term that an operand is.
+/// Returns the text of a pair of a word and the term that an operand is, or `None` if memory runs out.
 pub(crate) fn tagged_operand(alloc: Global, tag: &str, operand: Operand<'_>) -> Option<Vec<u8>> {
     let Ok(term) = operand.to_term(alloc) else {
         return None;
@@ -86,7 +87,8 @@ pub(crate) fn tagged_operand(alloc: Global, tag: &str, operand: Operand<'_>) -> 
     text
 }
 
-/// What a call gives.
+/// Returns the text of the result of a call: `{gives,Term}` or `fails`; `{gives_in_another_form,Term}` if the form is
+/// wrong.
 fn given(alloc: Global, function: Primitive, operands: &[Operand<'_>]) -> Option<Vec<u8>> {
     let Some(operand) = call(function, operands) else {
         return word(alloc, "fails");
@@ -99,7 +101,8 @@ fn given(alloc: Global, function: Primitive, operands: &[Operand<'_>]) -> Option
     tagged_operand(alloc, tag, operand)
 }
 
-/// What the call of a name with a list of terms gives.
+/// Returns the text of the result of the call of this name with a list of terms; `unknown` if there is no such
+/// function.
 fn called(alloc: Global, named: &Term, list: &Term, forms: usize) -> Option<Vec<u8>> {
     let terms = elements(list)?;
     match function(named, terms.len()) {
@@ -111,7 +114,7 @@ fn called(alloc: Global, named: &Term, list: &Term, forms: usize) -> Option<Vec<
     }
 }
 
-/// The truth value that a call gives.
+/// Returns the truth value that is the result of a call, or `None`.
 fn truth(function: Primitive, operands: &[Operand<'_>]) -> Option<bool> {
     match call(function, operands) {
         Some(Operand::Bool(value)) => Some(value),
@@ -119,7 +122,7 @@ fn truth(function: Primitive, operands: &[Operand<'_>]) -> Option<bool> {
     }
 }
 
-/// The list of those terms of a list of which the test of a name holds.
+/// Returns the text of the list of those terms of a list for which the test of this name is true.
 fn holding(alloc: Global, name: &Term, list: &Term, form: usize) -> Option<Vec<u8>> {
     let test = primitive(name, 1)?;
     let terms = elements(list)?;
@@ -140,14 +143,15 @@ const fn order_name(order: Ordering) -> &'static str {
     }
 }
 
-/// Whether an order is among these.
+/// Returns whether an order is among these.
 fn is_among(order: Ordering, orders: &[Term]) -> bool {
     orders
         .iter()
         .any(|wanted| is_atom(wanted, order_name(order)))
 }
 
-/// Whether a comparison of the rising term at a place with each holds just for these orders of the first to the second.
+/// Returns whether the comparison of the term at a place with each of the ascending terms is true exactly for these
+/// orders of the two.
 fn compares_at(
     comparison: Primitive,
     rising: &[Term],
@@ -165,7 +169,8 @@ fn compares_at(
     Some(true)
 }
 
-/// The first place of rising terms of which a comparison with one of them doesn't hold just for these orders, if any.
+/// Returns the first place among ascending terms for which a comparison with one of them is not true exactly for these
+/// orders; `Some(None)` if there is no such place.
 fn first_compared_otherwise(
     comparison: Primitive,
     rising: &[Term],
@@ -180,7 +185,8 @@ fn first_compared_otherwise(
     Some(None)
 }
 
-/// For which orders the comparison of a name holds of rising terms: these, if it is so.
+/// Returns the text of `wanted` if the comparison of this name is true exactly for these orders of ascending terms.
+/// Otherwise names the first term for which it is not.
 fn compared(
     alloc: Global,
     name: &Term,
@@ -204,7 +210,7 @@ const fn gives_name(gives: Gives) -> &'static str {
     }
 }
 
-/// The kind of term that the function of that name and of so many arguments gives.
+/// Returns the text of the kind of term that the function with this name and number of arguments gives.
 fn kind_given(alloc: Global, name: &Term, arguments: usize) -> Option<Vec<u8>> {
     let Some(function) = primitive(name, arguments) else {
         return word(alloc, "unknown");
@@ -216,7 +222,7 @@ fn kind_given(alloc: Global, name: &Term, arguments: usize) -> Option<Vec<u8>> {
     }
 }
 
-/// What comes of a row of calls.
+/// Returns the result of a row of calls, or `None` if there is no such row.
 pub(crate) fn came(alloc: Global, kind: &str, parts: &[Term], forms: usize) -> Option<Vec<u8>> {
     let [name, given, wanted] = parts else {
         return None;

@@ -1,4 +1,4 @@
-//! Code that is given by its parts or by its specification: what is built, its budget, and what the verifier says.
+//! Code that is given by its parts or by its specification: what is built, its budget, and the result of the verifier.
 use budget::{all_forward, longest};
 use compiler::compile;
 use kit_code::{
@@ -23,7 +23,7 @@ const fn part_name(part: Part) -> &'static str {
     }
 }
 
-/// How many routines code has that has some, and how many instructions and frames the last of them.
+/// Returns the text of the number of routines of code, and of the numbers of instructions and frames of the last one.
 fn routine_counts(alloc: Global, code: &Code) -> Option<Vec<u8>> {
     let count = code.routines().len();
     let last = Body::of(code, u16::try_from(count).ok()?);
@@ -33,7 +33,8 @@ fn routine_counts(alloc: Global, code: &Code) -> Option<Vec<u8>> {
         .end()
 }
 
-/// How many constants, instructions and frames code has, and the same of its last routine, where it has one.
+/// Returns the text of the numbers of constants, instructions and frames of code, and of its last routine if it has
+/// one.
 fn counts(alloc: Global, code: &Code) -> Option<Vec<u8>> {
     let out = Outcome::tuple(alloc).number(code.constants().len());
     let out = out
@@ -46,13 +47,13 @@ fn counts(alloc: Global, code: &Code) -> Option<Vec<u8>> {
     }
 }
 
-/// The beginning of the text of a part that was refused for a fault of this number.
+/// Returns the beginning of the text of a part that was rejected with this error code.
 fn refused_part(alloc: Global, part: Part, number: u8) -> Outcome {
     let out = Outcome::tuple(alloc).word("refused");
     out.word(part_name(part)).number(usize::from(number))
 }
 
-/// The text of what a builder made.
+/// Returns the text of the result of a builder.
 fn built_text(alloc: Global, built: &Built<Global>) -> Option<Vec<u8>> {
     match built {
         Built::Whole(code) => {
@@ -68,7 +69,7 @@ fn built_text(alloc: Global, built: &Built<Global>) -> Option<Vec<u8>> {
     }
 }
 
-/// What a builder makes of these parts.
+/// Returns the text of the result of a builder for these parts.
 fn built_of(alloc: Global, parts: Parts<Global>, wanted: &Parts<Global>) -> Option<Vec<u8>> {
     let built = build(alloc, parts, wanted);
     let text = built_text(alloc, &built);
@@ -76,7 +77,7 @@ fn built_of(alloc: Global, parts: Parts<Global>, wanted: &Parts<Global>) -> Opti
     text
 }
 
-/// What a builder makes of the parts of code.
+/// Returns the text of the result of a builder for the parts of code that a term describes.
 fn built(alloc: Global, term: &Term) -> Option<Vec<u8>> {
     let (parts, wanted) = parts_of(alloc, term).zip(parts_of(alloc, term))?;
     let text = built_of(alloc, parts, &wanted);
@@ -84,7 +85,7 @@ fn built(alloc: Global, term: &Term) -> Option<Vec<u8>> {
     text
 }
 
-/// The depth of the frame of code at an instruction.
+/// Returns the text of the depth of the frame of code at an instruction, or `none`.
 fn frame_at(alloc: Global, term: &Term, pc: u16) -> Option<Vec<u8>> {
     let code = code_of(alloc, term)?;
     let text = match code.frame_at(pc) {
@@ -95,7 +96,8 @@ fn frame_at(alloc: Global, term: &Term, pc: u16) -> Option<Vec<u8>> {
     text
 }
 
-/// Whether the function that an instruction calls by a name is the one of that name and of so many arguments.
+/// Returns whether the function that a `call` instruction calls by this name is the one with this name and number of
+/// arguments: `same` or `other`.
 fn called(alloc: Global, name: &Term, arguments: u16) -> Option<Vec<u8>> {
     let wanted = primitive(name, usize::from(arguments))?;
     if Primitive::Function(function(name)?) == wanted {
@@ -105,7 +107,7 @@ fn called(alloc: Global, name: &Term, arguments: u16) -> Option<Vec<u8>> {
     }
 }
 
-/// Where an instruction may jump, and whether it goes on.
+/// Returns the text of where an instruction may jump, and whether it may go on to the next instruction.
 fn leads(alloc: Global, term: &Term) -> Option<Vec<u8>> {
     let instr = instruction(alloc, 0, term)?;
     let out = Outcome::tuple(alloc);
@@ -116,7 +118,8 @@ fn leads(alloc: Global, term: &Term) -> Option<Vec<u8>> {
     out.truth(instr.goes_on()).end()
 }
 
-/// The budget of code whose jumps go forward, with memory from `heap`.
+/// Returns the text of the budget of code, allocated from `heap`; `over` if it is too large, `not_forward` if a jump
+/// goes backward. Returns `None` if memory runs out.
 fn budget<A: Allocator + Copy>(alloc: Global, heap: A, code: &Code<A>) -> Option<Vec<u8>> {
     if all_forward(code) {
         match longest(heap, code).ok()? {
@@ -128,7 +131,7 @@ fn budget<A: Allocator + Copy>(alloc: Global, heap: A, code: &Code<A>) -> Option
     }
 }
 
-/// The same of the code that a term says.
+/// Returns the text of the budget of the code that a term describes, or `None` if memory runs out.
 pub(crate) fn budget_of<A: Allocator + Copy>(
     alloc: Global,
     heap: A,
@@ -140,7 +143,7 @@ pub(crate) fn budget_of<A: Allocator + Copy>(
     text
 }
 
-/// Whether all jumps go forward.
+/// Returns the text of whether all jumps of the code that a term describes go forward.
 fn forward(alloc: Global, term: &Term) -> Option<Vec<u8>> {
     let code = code_of(alloc, term)?;
     let is_forward = all_forward(&code);
@@ -148,7 +151,7 @@ fn forward(alloc: Global, term: &Term) -> Option<Vec<u8>> {
     word(alloc, truth_name(is_forward))
 }
 
-/// Whether a body has the depths of these frames.
+/// Returns whether the verifier's depths of a body are those of these frames.
 fn has_depths(seen: &Seen<'_>, frames: &[Frame]) -> bool {
     for frame in frames {
         if seen.code().frame_at(frame.pc).is_none() {
@@ -161,7 +164,7 @@ fn has_depths(seen: &Seen<'_>, frames: &[Frame]) -> bool {
     true
 }
 
-/// Whether the routine at a place of verified code has the depths of its frames.
+/// Returns whether the verifier's depths of the routine at a place are those of its frames.
 fn routine_has_depths(verified: &Verified, place: usize, parts: &BodyParts<Global>) -> bool {
     if place >= verified.code().routines().len() {
         return false;
@@ -172,7 +175,7 @@ fn routine_has_depths(verified: &Verified, place: usize, parts: &BodyParts<Globa
     }
 }
 
-/// Whether verified code has the depths of the frames of all bodies.
+/// Returns whether the verifier's depths of all bodies are those of their frames.
 fn are_depths(verified: &Verified, parts: &Parts<Global>) -> bool {
     for (place, routine) in parts.routines.iter().enumerate() {
         if !routine_has_depths(verified, place, &routine.body) {
@@ -182,7 +185,7 @@ fn are_depths(verified: &Verified, parts: &Parts<Global>) -> bool {
     has_depths(&verified.main(), parts.main.frames.as_slice())
 }
 
-/// The specification of a term `{compile,Specification}`.
+/// Returns the specification of a term `{compile,Specification}`, or `None` for any other term.
 fn to_compile<A: Allocator>(term: &Term<A>) -> Option<&Term<A>> {
     match fields(term)? {
         [word, specification] if is_atom(word, "compile") => Some(specification),
@@ -190,7 +193,7 @@ fn to_compile<A: Allocator>(term: &Term<A>) -> Option<&Term<A>> {
     }
 }
 
-/// The code of the specification that a term is read as.
+/// Returns the code of the specification that a term is read as, or `None`.
 fn compiled_code<A: Allocator + Copy>(heap: A, specification: &Term<A>) -> Option<Verified<A>> {
     let Ok(specification) = read_spec(heap, specification) else {
         return None;
@@ -200,7 +203,7 @@ fn compiled_code<A: Allocator + Copy>(heap: A, specification: &Term<A>) -> Optio
     code
 }
 
-/// Code that is given by its parts, or by its specification in a term `{compile,Specification}`.
+/// Terms that are accepted as code: code by its parts, or `{compile,Specification}`.
 pub(crate) struct GivenCode;
 
 impl CodeTerms for GivenCode {
@@ -212,8 +215,8 @@ impl CodeTerms for GivenCode {
     }
 }
 
-/// The number of a fault of code, the instruction that it names, and its body, where that isn't the main one; the body
-/// alone where it is at fault as a whole. None for want of memory.
+/// Returns the text of a fault of code: its error code, the instruction that it names, and its body unless that is the
+/// main one; the body alone if it is at fault as a whole. Returns `None` if memory ran out.
 pub(crate) fn refused(alloc: Global, told: BodyFault) -> Option<Vec<u8>> {
     if told.fault == Fault::Memory {
         return None;
@@ -228,7 +231,8 @@ pub(crate) fn refused(alloc: Global, told: BodyFault) -> Option<Vec<u8>> {
     }
 }
 
-/// What the verifier says of code, which it keeps or hands back.
+/// Returns the text of the result of the verifier for code; `other_code` if the code that it returns does not have
+/// these parts or depths.
 fn verdict(alloc: Global, code: Code, parts: &Parts<Global>) -> Option<Vec<u8>> {
     let verified = verify(alloc, code);
     let text = match &verified {
@@ -244,7 +248,7 @@ fn verdict(alloc: Global, code: Code, parts: &Parts<Global>) -> Option<Vec<u8>> 
     text
 }
 
-/// What the verifier says of the code that a term says.
+/// Returns the text of the result of the verifier for the code that a term describes.
 fn verified(alloc: Global, term: &Term) -> Option<Vec<u8>> {
     let (code, parts) = code_of(alloc, term).zip(parts_of(alloc, term))?;
     let text = verdict(alloc, code, &parts);
@@ -252,7 +256,8 @@ fn verified(alloc: Global, term: &Term) -> Option<Vec<u8>> {
     text
 }
 
-/// Whether the code of a specification has these parts, and what the verifier says of it.
+/// Returns the text of the result of the verifier for the code of a specification; `other_code` if that does not have
+/// the parts that `code` describes.
 fn compiled(alloc: Global, specification: &Term, code: &Term) -> Option<Vec<u8>> {
     let verified = compiled_code(alloc, specification);
     let (verified, parts) = verified.zip(parts_of(alloc, code))?;
@@ -266,7 +271,7 @@ fn compiled(alloc: Global, specification: &Term, code: &Term) -> Option<Vec<u8>>
     text
 }
 
-/// What comes of a row of one term.
+/// Returns the result of a row of one term and the expected result.
 fn came_of_one(alloc: Global, kind: &str, given: &Term) -> Option<Vec<u8>> {
     match kind {
         "built" => built(alloc, given),
@@ -278,7 +283,7 @@ fn came_of_one(alloc: Global, kind: &str, given: &Term) -> Option<Vec<u8>> {
     }
 }
 
-/// What comes of a row of two terms.
+/// Returns the result of a row of two terms and the expected result.
 fn came_of_two(alloc: Global, kind: &str, first: &Term, second: &Term) -> Option<Vec<u8>> {
     match kind {
         "frame_at" => frame_at(alloc, first, short(second)?),
@@ -288,7 +293,7 @@ fn came_of_two(alloc: Global, kind: &str, first: &Term, second: &Term) -> Option
     }
 }
 
-/// What comes of a row of code.
+/// Returns the result of a row of code, or `None` if there is no such row.
 pub(crate) fn came(alloc: Global, kind: &str, parts: &[Term]) -> Option<Vec<u8>> {
     match parts {
         [given, _] => came_of_one(alloc, kind, given),

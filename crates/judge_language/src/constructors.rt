@@ -1,4 +1,4 @@
-//! Terms that are made of terms, of characters or of bytes, with memory and with each request refused in turn.
+//! Terms that are made of terms, of characters or of bytes, with memory and with each allocation failing in turn.
 ghost use Rattle.std.specs.Prelude.{◌≡◌, [], ◌∷◌, pos, IfSome};
 ghost use Rattle.term_core.specs.Datum.Datum.{integer};
 ghost use Rattle.term_core.specs.MapPairs.{keys_of};
@@ -14,10 +14,10 @@ use term_build::{
 use term_core::{Fault, ListParts, Refused, Term, View};
 use term_text::read_terms;
 
-/// What a call makes of terms, or the refusal with all of them.
+/// The term that a call makes of terms, or its fault with all of these terms.
 type Made<A> = Result<Term<A>, Refused<Vec<Term<A>, A>>>;
 
-/// Puts a pair of a key and a value behind others; false for want of memory, or of one of them.
+/// Appends a pair of a key and a value. Returns `false` if memory runs out or one of them is missing.
 fn put_next<A: Allocator>(
     pairs: &mut Vec<(Term<A>, Term<A>), A>,
     key: Option<Term<A>>,
@@ -29,7 +29,7 @@ fn put_next<A: Allocator>(
     }
 }
 
-/// These terms by twos, `None` for want of memory.
+/// Returns these terms as pairs of two each, or `None` if memory runs out.
 fn paired<A: Allocator + Copy>(
     heap: A,
     terms: Vec<Term<A>, A>,
@@ -44,7 +44,7 @@ fn paired<A: Allocator + Copy>(
     is_whole.then_some(pairs)
 }
 
-/// The keys and values of these pairs by turns, `None` for want of memory.
+/// Returns the keys and values of these pairs in turn, or `None` if memory runs out.
 fn unpaired<A: Allocator + Copy>(
     heap: A,
     pairs: Vec<(Term<A>, Term<A>), A>,
@@ -58,7 +58,7 @@ fn unpaired<A: Allocator + Copy>(
     is_whole.then_some(terms)
 }
 
-/// A list's elements with its tail behind them, `None` for want of memory.
+/// Returns a list's elements followed by its tail, or `None` if memory runs out.
 fn with_tail<A: Allocator + Copy>(parts: ListParts<A>) -> Option<Vec<Term<A>, A>> {
     let ListParts { mut elements, tail } = parts;
     let is_whole = match tail {
@@ -68,7 +68,7 @@ fn with_tail<A: Allocator + Copy>(parts: ListParts<A>) -> Option<Vec<Term<A>, A>
     is_whole.then_some(elements)
 }
 
-/// The refusal of terms, where they came back.
+/// Returns the fault with the terms, if these were returned.
 fn refused_again<A: Allocator>(value: Option<Vec<Term<A>, A>>, fault: Fault) -> Option<Made<A>> {
     Some(Err(Refused {
         value: value?,
@@ -105,7 +105,7 @@ fn map<A: Allocator + Copy>(heap: A, terms: Vec<Term<A>, A>) -> Option<Made<A>> 
     }
 }
 
-/// What a constructor makes of these terms, `None` for want of memory before or behind the call.
+/// Returns what a constructor makes of these terms, or `None` if memory runs out before or after the call.
 fn constructed<A: Allocator + Copy>(
     heap: A,
     constructor: &str,
@@ -123,7 +123,7 @@ fn constructed<A: Allocator + Copy>(
     }
 }
 
-/// Pairs of these three values, the last first, whose keys are 3, 1 and 2.
+/// Returns pairs with the keys 3, 1 and 2, in this order, and these three values, the last value first.
 fn keyed<A: Allocator + Copy>(
     heap: A,
     mut terms: Vec<Term<A>, A>,
@@ -166,7 +166,7 @@ fn copied_one<A: Allocator + Copy>(term: &Term<A>) -> Option<Option<Term<A>>> {
     }
 }
 
-/// What a call copies of these terms, if anything; `None` for want of memory.
+/// Returns the copy that a call makes of these terms, if there is one, or `None` if memory runs out.
 fn copied<A: Allocator + Copy>(
     heap: A,
     copier: &str,
@@ -190,7 +190,8 @@ fn listed<A: Allocator + Copy>(heap: A, mut elements: Vec<Term<A>, A>) -> Option
     }
 }
 
-/// What a call that hands nothing back makes of these terms, if anything; `None` for want of memory.
+/// Returns the term, if any, that a call makes of these terms; the call does not return the terms if it fails. Returns
+/// `None` if memory runs out.
 fn made<A: Allocator + Copy>(
     heap: A,
     maker: &str,
@@ -208,7 +209,8 @@ fn made<A: Allocator + Copy>(
     }
 }
 
-/// The text of a refusal; `None` where it is for want of memory. What was given has to come back whole.
+/// Returns the text of a fault, or `None` if memory ran out; `not_handed_back` if what was given was not returned
+/// whole.
 fn refusal(alloc: Global, fault: Fault, is_whole: bool) -> Option<Vec<u8>> {
     if !is_whole {
         return word(alloc, "not_handed_back");
@@ -219,7 +221,7 @@ fn refusal(alloc: Global, fault: Fault, is_whole: bool) -> Option<Vec<u8>> {
     refused(alloc, fault)
 }
 
-/// The refusal of a constructor, which has to hand back the terms of a text.
+/// Returns the text of the fault of a constructor, which has to return the terms of a text.
 fn refused_terms<A: Allocator>(
     alloc: Global,
     refused: &Refused<Vec<Term<A>, A>>,
@@ -229,7 +231,7 @@ fn refused_terms<A: Allocator>(
     refusal(alloc, refused.fault, whole.as_slice() == given)
 }
 
-/// What is made of the terms of a text, or the refusal.
+/// Returns the text of the term that a constructor makes of the terms of a text, or of its fault.
 fn constructs<A: Allocator + Copy>(
     alloc: Global,
     heap: A,
@@ -260,8 +262,8 @@ fn makes<A: Allocator + Copy>(
     out
 }
 
-fn atom<A: Allocator + Copy>(alloc: Global, heap: A, given: &[u8]) -> Option<Vec<u8>> {
-    let made = atom_of_text(heap, str::from_utf8(given).ok()?);
+/// Returns the text of the atom or binary that was made, or of the fault.
+fn leaf<A: Allocator>(alloc: Global, made: Result<Term<A>, Fault>) -> Option<Vec<u8>> {
     let out = match &made {
         Ok(term) => canonical(alloc, term),
         Err(fault) => refusal(alloc, *fault, true),
@@ -270,35 +272,17 @@ fn atom<A: Allocator + Copy>(alloc: Global, heap: A, given: &[u8]) -> Option<Vec
     out
 }
 
-/// The refusal of characters, which have to come back.
-fn refused_characters<A: Allocator>(
-    alloc: Global,
-    refused: &Refused<Vec<char, A>>,
-    given: &str,
-) -> Option<Vec<u8>> {
-    let is_whole = refused.value.iter().copied().eq(given.chars());
-    refusal(alloc, refused.fault, is_whole)
+fn atom<A: Allocator + Copy>(alloc: Global, heap: A, given: &[u8]) -> Option<Vec<u8>> {
+    leaf(alloc, atom_of_text(heap, str::from_utf8(given).ok()?))
 }
 
 fn from_characters<A: Allocator + Copy>(alloc: Global, heap: A, given: &[u8]) -> Option<Vec<u8>> {
-    let given = str::from_utf8(given).ok()?;
-    let made = Term::from_characters(heap, given.chars().collect(heap).ok()?);
-    let out = match &made {
-        Ok(term) => canonical(alloc, term),
-        Err(refused) => refused_characters(alloc, refused, given),
-    };
-    drop(made);
-    out
+    let characters: Vec<char, A> = str::from_utf8(given).ok()?.chars().collect(heap).ok()?;
+    leaf(alloc, Term::from_characters(heap, characters.as_slice()))
 }
 
 fn binary<A: Allocator + Copy>(alloc: Global, heap: A, given: &[u8]) -> Option<Vec<u8>> {
-    let made = Term::binary(heap, Vec::from_slice(heap, given).ok()?);
-    let out = match &made {
-        Ok(term) => canonical(alloc, term),
-        Err(refused) => refusal(alloc, refused.fault, refused.value.as_slice() == given),
-    };
-    drop(made);
-    out
+    leaf(alloc, Term::binary(heap, given))
 }
 
 fn tells_apart<A: Allocator + Copy>(alloc: Global, heap: A, given: &[u8]) -> Option<Vec<u8>> {
@@ -332,20 +316,21 @@ impl Calls for TermCalls {
         }
     }
 
-    // Room for characters is asked for first, and done without where it is refused.
+    // Room for what is collected is allocated first; if that fails, the call goes on without it.
     fn asks_again(call: &str) -> bool {
-        matches!(call, "atom" | "from_characters" | "copy" | "copy_all")
+        matches!(call, "from_characters" | "copy" | "copy_all")
     }
 }
 
-/// The refusal of a constructor, how many terms came back, and how long the last of them is.
+/// Returns the text of the fault of a constructor, the number of terms that were returned, and the length of the last
+/// of them.
 fn sized_refusal(alloc: Global, fault: Fault, terms: &[Term]) -> Option<Vec<u8>> {
     let (number, last) = (usize::from(fault.number()), length(terms.last()?));
     let out = Outcome::tuple(alloc).word("refused").number(number);
     out.number(terms.len()).number(last).end()
 }
 
-/// The size of what a call that hands nothing back makes of these terms.
+/// Returns the text of the size of the term that a call makes of these terms and that returns nothing if it fails.
 fn made_size(alloc: Global, call: &str, terms: Vec<Term>) -> Option<Vec<u8>> {
     let made = made(alloc, call, terms)?;
     let out = match &made {
@@ -356,7 +341,7 @@ fn made_size(alloc: Global, call: &str, terms: Vec<Term>) -> Option<Vec<u8>> {
     out
 }
 
-/// The size of what a constructor makes of these terms.
+/// Returns the text of the size of the term that a constructor makes of these terms, or of its fault.
 fn constructed_size(alloc: Global, call: &str, terms: Vec<Term>) -> Option<Vec<u8>> {
     let made = constructed(alloc, call, terms)?;
     let out = match &made {
@@ -367,7 +352,7 @@ fn constructed_size(alloc: Global, call: &str, terms: Vec<Term>) -> Option<Vec<u
     out
 }
 
-/// The size of what a call makes of the terms of a text.
+/// Returns the text of the size of the term that a call makes of the terms of a text.
 fn sized(alloc: Global, call: &str, given: &[u8]) -> Option<Vec<u8>> {
     let terms = read_terms(alloc, given).ok()?;
     if call.starts_with("make_") || call == "copy" {
@@ -377,7 +362,7 @@ fn sized(alloc: Global, call: &str, given: &[u8]) -> Option<Vec<u8>> {
     }
 }
 
-/// The size of the atom of these characters, or the refusal.
+/// Returns the text of the size of the atom of these characters, or of the fault.
 fn sized_atom(alloc: Global, given: &[u8]) -> Option<Vec<u8>> {
     let made = atom_of_text(alloc, str::from_utf8(given).ok()?);
     let out = match &made {
@@ -388,18 +373,18 @@ fn sized_atom(alloc: Global, given: &[u8]) -> Option<Vec<u8>> {
     out
 }
 
-/// The size of the binary of these bytes, or the refusal.
+/// Returns the text of the size of the binary of these bytes, or of the fault.
 fn sized_binary(alloc: Global, given: &[u8]) -> Option<Vec<u8>> {
-    let made = Term::binary(alloc, Vec::from_slice(alloc, given).ok()?);
+    let made = Term::binary(alloc, given);
     let out = match &made {
         Ok(term) => size_of(alloc, term),
-        Err(refused) => refusal(alloc, refused.fault, refused.value.as_slice() == given),
+        Err(fault) => refusal(alloc, *fault, true),
     };
     drop(made);
     out
 }
 
-/// The size of the atom or binary of so many characters or bytes, or the refusal and how many came back.
+/// Returns the text of the size of the atom or binary of these characters or bytes, or of the fault.
 fn sized_leaf(alloc: Global, call: &str, given: &[u8]) -> Option<Vec<u8>> {
     if call == "atom" {
         sized_atom(alloc, given)
@@ -408,7 +393,7 @@ fn sized_leaf(alloc: Global, call: &str, given: &[u8]) -> Option<Vec<u8>> {
     }
 }
 
-/// What comes of a call on a text.
+/// Returns the result of a call on a text.
 fn outcome(alloc: Global, kind: &str, call: &str, given: &[u8]) -> Option<Vec<u8>> {
     match kind {
         "made" => swept::<TermCalls>(alloc, call, given),
@@ -418,7 +403,7 @@ fn outcome(alloc: Global, kind: &str, call: &str, given: &[u8]) -> Option<Vec<u8
     }
 }
 
-/// What comes of a row of constructors.
+/// Returns the result of a row of constructors, or `None` if there is no such row.
 pub(crate) fn came(alloc: Global, kind: &str, parts: &[Term]) -> Option<Vec<u8>> {
     let [call, given, _] = parts else {
         return None;

@@ -1,11 +1,12 @@
-//! Calls with each request for memory refused in turn.
+//! Calls on files with each allocation failing in turn.
 use crate::files::{encoded, verdict};
 use kit_rows::Calls;
 use std::alloc::{Allocator, Global};
 use term_core::{Term, View};
 use term_text::read_terms;
 
-/// Whether the first of two terms says code that is written as the binary that is the second; none for want of memory.
+/// Returns the text of whether the code that the first of two terms describes is encoded as the binary that is the
+/// second, or `None` if memory runs out.
 fn written_of<A: Allocator + Copy>(alloc: Global, heap: A, terms: &[Term<A>]) -> Option<Vec<u8>> {
     let [code, file] = terms else {
         return None;
@@ -16,7 +17,8 @@ fn written_of<A: Allocator + Copy>(alloc: Global, heap: A, terms: &[Term<A>]) ->
     }
 }
 
-/// Whether the code of a text is written as the binary behind it; none for want of memory.
+/// Returns the text of whether the code of a text is encoded as the binary that follows it, or `None` if memory runs
+/// out.
 fn written<A: Allocator + Copy>(alloc: Global, heap: A, given: &[u8]) -> Option<Vec<u8>> {
     let Ok(terms) = read_terms(heap, given) else {
         return None;
@@ -26,7 +28,7 @@ fn written<A: Allocator + Copy>(alloc: Global, heap: A, given: &[u8]) -> Option<
     text
 }
 
-/// The calls of rows of refused memory.
+/// The calls of rows with failing allocations.
 pub(crate) struct FileCalls;
 
 impl Calls for FileCalls {
@@ -45,7 +47,7 @@ impl Calls for FileCalls {
         }
     }
 
-    // Room for the characters of an atom is asked for first, and done without where it is refused.
+    // Room for the characters of an atom is allocated first; if that fails, the call goes on without it.
     fn asks_again(call: &str) -> bool {
         matches!(call, "swept_file" | "swept_encoded")
     }

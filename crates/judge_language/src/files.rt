@@ -1,4 +1,4 @@
-//! Code files that are read, verified and run, and code that is written as one.
+//! Code files that are read, verified and run, and code that is encoded as one.
 use crate::codes;
 use code_file::{FileFault, decode, encode};
 use kit_code::{accepted, code_of, is_code, parts_of, ran_each};
@@ -7,16 +7,16 @@ use std::alloc::{Allocator, Global};
 use term_core::Term;
 use verifier::{BodyFault, Verified, verify};
 
-/// Why bytes are no file of typed code.
+/// Why bytes are not the file of typed code.
 #[derive(Clone, Copy)]
 pub(crate) enum Refusal {
-    /// They are no code file.
+    /// They are not a code file.
     Unread(FileFault),
-    /// The code isn't typed.
+    /// The code is not typed.
     Untyped(BodyFault),
 }
 
-/// The code of a file, verified.
+/// Decodes the code of a file, and verifies it.
 pub(crate) fn load<A: Allocator + Copy>(heap: A, bytes: &[u8]) -> Result<Verified<A>, Refusal> {
     let code = match decode(heap, bytes) {
         Ok(code) => code,
@@ -32,7 +32,8 @@ pub(crate) fn load<A: Allocator + Copy>(heap: A, bytes: &[u8]) -> Result<Verifie
     }
 }
 
-/// The number of a fault of a file, and the place that it names, where it names one; none for want of memory.
+/// Returns the text of the error code of a fault of a file, and of the byte offset that it names, if it names one.
+/// Returns `None` if memory ran out.
 fn unread(alloc: Global, fault: FileFault) -> Option<Vec<u8>> {
     if fault == FileFault::Memory {
         return None;
@@ -45,7 +46,7 @@ fn unread(alloc: Global, fault: FileFault) -> Option<Vec<u8>> {
     }
 }
 
-/// Why bytes are no file of typed code; none for want of memory.
+/// Returns the text of why bytes are not the file of typed code, or `None` if memory ran out.
 fn refused(alloc: Global, refusal: Refusal) -> Option<Vec<u8>> {
     match refusal {
         Refusal::Unread(fault) => unread(alloc, fault),
@@ -53,7 +54,8 @@ fn refused(alloc: Global, refusal: Refusal) -> Option<Vec<u8>> {
     }
 }
 
-/// What is said of code that is accepted, which has to be written as these bytes; none for want of memory.
+/// Returns the text of the budget and depth of code that is accepted, which has to be encoded as these bytes again.
+/// Returns `None` if memory runs out.
 fn written_again<A: Allocator + Copy>(
     alloc: Global,
     heap: A,
@@ -68,7 +70,8 @@ fn written_again<A: Allocator + Copy>(
     }
 }
 
-/// What is said of a file, which the code that is accepted has to be written as again; none for want of memory.
+/// Returns the text of the result of loading a file. Code that is accepted has to be encoded as this file again.
+/// Returns `None` if memory runs out.
 pub(crate) fn verdict<A: Allocator + Copy>(
     alloc: Global,
     heap: A,
@@ -84,7 +87,7 @@ pub(crate) fn verdict<A: Allocator + Copy>(
     }
 }
 
-/// What the code of a file answers on each of these objects, or what is said of a file that is refused.
+/// Returns the texts of the answers of the code of a file on each of these objects, or of why the file is rejected.
 fn answers(alloc: Global, bytes: &[u8], objects: &[Term]) -> Option<Vec<u8>> {
     match load(alloc, bytes) {
         Ok(code) => {
@@ -96,7 +99,7 @@ fn answers(alloc: Global, bytes: &[u8], objects: &[Term]) -> Option<Vec<u8>> {
     }
 }
 
-/// The file of the code that a term says; none for want of memory.
+/// Returns the file of the code that a term describes, or `None` if memory runs out.
 fn file_of<A: Allocator + Copy>(heap: A, term: &Term<A>) -> Option<Vec<u8, A>> {
     let code = code_of(heap, term)?;
     let file = encode(heap, &code).ok();
@@ -104,7 +107,7 @@ fn file_of<A: Allocator + Copy>(heap: A, term: &Term<A>) -> Option<Vec<u8, A>> {
     file
 }
 
-/// Whether bytes are read as code of the parts that a term says; none for want of memory.
+/// Returns whether bytes are decoded as code with the parts that a term describes, or `None` if memory runs out.
 fn is_read_as<A: Allocator + Copy>(heap: A, bytes: &[u8], term: &Term<A>) -> Option<bool> {
     let read = decode(heap, bytes).ok();
     let (read, parts) = read.zip(parts_of(heap, term))?;
@@ -114,7 +117,8 @@ fn is_read_as<A: Allocator + Copy>(heap: A, bytes: &[u8], term: &Term<A>) -> Opt
     Some(is_so)
 }
 
-/// Whether code is written as these bytes, and these bytes are read as code of the same parts; none for want of memory.
+/// Returns the text of whether code is encoded as these bytes, and these bytes are decoded as code with the same parts.
+/// Returns `None` if memory runs out.
 pub(crate) fn encoded<A: Allocator + Copy>(
     alloc: Global,
     heap: A,
@@ -132,7 +136,7 @@ pub(crate) fn encoded<A: Allocator + Copy>(
     }
 }
 
-/// What comes of a row of files.
+/// Returns the result of a row of files, or `None` if there is no such row.
 pub(crate) fn came(alloc: Global, kind: &str, parts: &[Term]) -> Option<Vec<u8>> {
     match (kind, parts) {
         ("file", [file, _]) => verdict(alloc, alloc, text(alloc, file)?.as_slice()),

@@ -1,4 +1,4 @@
-//! The beginnings of a file, and each of its bytes changed to each other value.
+//! The beginnings of a file, and the file with each of its bytes changed to each other value.
 use crate::files::{Refusal, load};
 use code_file::{FileFault, decode};
 use kit_code::is_true;
@@ -8,7 +8,8 @@ use std::alloc::Global;
 use term_core::Term;
 use verifier::{Fault, Verified};
 
-/// Whether each beginning of a file ends too early at its end; else how long the first other one is.
+/// Returns the text of whether each beginning of a file is rejected as truncated at its end; otherwise of the length of
+/// the first one that is not.
 fn fronts(alloc: Global, file: &[u8]) -> Option<Vec<u8>> {
     for length in 0..file.len() {
         if decode(alloc, file.get(..length)?).err() != Some(FileFault::Truncated(length)) {
@@ -18,8 +19,8 @@ fn fronts(alloc: Global, file: &[u8]) -> Option<Vec<u8>> {
     word(alloc, "truncated")
 }
 
-/// Whether a run of a machine on an object ends within a budget, and a test whether the answer is the atom `true` takes
-/// as many instructions and says so; none for want of memory.
+/// Returns whether a run of a machine on an object ends within a budget, and `run_true` executes as many instructions
+/// and agrees on whether the answer is `true`. Returns `None` if memory runs out.
 fn is_within<'a>(machine: &mut Machine<'a, '_>, object: &'a Term, budget: u32) -> Option<bool> {
     let (holds, tested) = machine.run_true(object).ok()?;
     let Ok((answer, executed)) = machine.run(object) else {
@@ -30,7 +31,7 @@ fn is_within<'a>(machine: &mut Machine<'a, '_>, object: &'a Term, budget: u32) -
     Some(is_right)
 }
 
-/// Whether it is so of its runs on each of these objects; none for want of memory.
+/// Returns whether `is_within` is true of a machine on each of these objects, or `None` if memory runs out.
 fn are_within<'a>(machine: &mut Machine<'a, '_>, objects: &'a [Term], budget: u32) -> Option<bool> {
     let mut within = true;
     for object in objects {
@@ -39,7 +40,8 @@ fn are_within<'a>(machine: &mut Machine<'a, '_>, objects: &'a [Term], budget: u3
     Some(within)
 }
 
-/// Whether it is so of runs of code on each of these objects; none for want of memory.
+/// Returns whether `is_within` is true of runs of code on each of these objects, with the code's budget, or `None` if
+/// memory runs out.
 fn runs_within(alloc: Global, code: &Verified, objects: &[Term]) -> Option<bool> {
     let heap = &alloc;
     let mut machine = Machine::new(heap, code).ok()?;
@@ -48,8 +50,8 @@ fn runs_within(alloc: Global, code: &Verified, objects: &[Term]) -> Option<bool>
     within
 }
 
-/// Whether a file is refused by name, or runs within its budget on these objects, where its tests agree with its
-/// answers; none for want of memory.
+/// Returns whether a file is rejected with a fault, or its code runs within its budget on these objects and `run_true`
+/// agrees with `run`. Returns `None` if memory runs out.
 fn holds(alloc: Global, file: &[u8], objects: &[Term]) -> Option<bool> {
     match load(alloc, file) {
         Ok(code) => {
@@ -63,7 +65,7 @@ fn holds(alloc: Global, file: &[u8], objects: &[Term]) -> Option<bool> {
     }
 }
 
-/// Whether that holds of a file with each value at one of its places.
+/// Returns whether `holds` is true of a file with each value of the byte at one of its places.
 fn values_hold(alloc: Global, file: &mut [u8], place: usize, objects: &[Term]) -> Option<bool> {
     for value in 0..=u8::MAX {
         *file.get_mut(place)? = value;
@@ -74,7 +76,8 @@ fn values_hold(alloc: Global, file: &mut [u8], place: usize, objects: &[Term]) -
     Some(true)
 }
 
-/// Whether it holds of a file with each value at each of its places; else the first place where it doesn't.
+/// Returns the text of whether `holds` is true of a file with each value of the byte at each of its places; otherwise
+/// of the first place where it is not.
 fn changed(alloc: Global, file: &[u8], objects: &[Term]) -> Option<Vec<u8>> {
     let mut other = Vec::from_slice(alloc, file).ok()?;
     for (place, byte) in file.iter().enumerate() {
@@ -86,7 +89,7 @@ fn changed(alloc: Global, file: &[u8], objects: &[Term]) -> Option<Vec<u8>> {
     word(alloc, "held")
 }
 
-/// What comes of a row of a file that others are made of.
+/// Returns the result of a row of a file from which others are made, or `None` if there is no such row.
 pub(crate) fn came(alloc: Global, kind: &str, parts: &[Term]) -> Option<Vec<u8>> {
     match (kind, parts) {
         ("fronts", [file, _]) => fronts(alloc, text(alloc, file)?.as_slice()),

@@ -1,21 +1,21 @@
 //! Rows of terms, of functions, of code and of code files, read from standard input and tried on the public calls of
-//! the crates: what comes of each is compared with what it wants, and each row that fails is printed, with how many
-//! rows there were of each kind.
+//! the crates. The result of each is compared with the expected one. Each row that fails is printed, with the number of
+//! rows of each kind.
 //!
-//! `stdin` has the rows, those of terms first, and at the head of each of the four the form of its kinds. The judge is
-//! proved once, and rows cost nothing but their run.
+//! `stdin` has the rows, those of terms first. Before each of the four groups it says how its kinds are written. The
+//! judge is proved once; to run further rows costs no proof.
 //!
-//! - `texts`: terms read, written, ordered and hashed; `constructors`: terms made and refused.
-//! - `calls`, `operands`, `values`: functions, what they are given and what they give.
+//! - `texts`: terms read, written, ordered and hashed; `constructors`: terms made and rejected.
+//! - `calls`, `operands`, `values`: functions, their arguments and their results.
 //! - `codes`: code that is built and verified, and the code of specifications.
-//! - `specifications`: terms that are read as specifications, and what these and their code answer.
-//! - `sweeps`: the same, and runs, with each request for memory refused in turn, also by one machine that is asked again,
-//!   and what takes no memory.
-//! - `files`: files that are read and verified, and code that is written as one.
-//! - `hostile`: all beginnings of a file, and each of its bytes changed to each other value.
-//! - `file_sweeps`: files with each request for memory refused in turn.
+//! - `specifications`: terms that are read as specifications, and the answers of these and of their code.
+//! - `sweeps`: calls on code and specifications, and runs, with each allocation failing in turn, also by one machine
+//!   that is called again, and calls that do not allocate.
+//! - `files`: files that are read and verified, and code that is encoded as one.
+//! - `hostile`: all beginnings of a file, and the file with each of its bytes changed to each other value.
+//! - `file_sweeps`: files with each allocation failing in turn.
 //!
-//! What code and specifications answer is in `kit_code`.
+//! The answers of code and specifications are in `kit_code`.
 #![tactic(auto)]
 
 mod calls;
@@ -41,7 +41,7 @@ use term_core::Term;
 /// The kinds of rows of this judge.
 struct LanguageKinds;
 
-/// What comes of a row of texts and of terms.
+/// Returns the result of a row of texts and of terms, or `None` if there is no such row.
 fn of_terms(alloc: Global, kind: &str, parts: &[Term]) -> Option<Vec<u8>> {
     if let Some(out) = texts::came(alloc, kind, parts) {
         return Some(out);
@@ -49,7 +49,7 @@ fn of_terms(alloc: Global, kind: &str, parts: &[Term]) -> Option<Vec<u8>> {
     constructors::came(alloc, kind, parts)
 }
 
-/// What comes of a row of functions.
+/// Returns the result of a row of functions, or `None` if there is no such row.
 fn of_functions(alloc: Global, kind: &str, parts: &[Term], forms: usize) -> Option<Vec<u8>> {
     if let Some(out) = calls::came(alloc, kind, parts, forms) {
         return Some(out);
@@ -60,7 +60,7 @@ fn of_functions(alloc: Global, kind: &str, parts: &[Term], forms: usize) -> Opti
     values::came(alloc, kind, parts, forms)
 }
 
-/// What comes of a row of code and of specifications.
+/// Returns the result of a row of code and of specifications, or `None` if there is no such row.
 fn of_code(alloc: Global, kind: &str, parts: &[Term]) -> Option<Vec<u8>> {
     if let Some(out) = codes::came(alloc, kind, parts) {
         return Some(out);
@@ -74,7 +74,7 @@ fn of_code(alloc: Global, kind: &str, parts: &[Term]) -> Option<Vec<u8>> {
     sweeps::came(alloc, kind, parts)
 }
 
-/// What comes of a row of code files.
+/// Returns the result of a row of code files, or `None` if there is no such row.
 fn of_files(alloc: Global, kind: &str, parts: &[Term]) -> Option<Vec<u8>> {
     if let Some(out) = files::came(alloc, kind, parts) {
         return Some(out);

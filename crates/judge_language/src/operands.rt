@@ -9,7 +9,7 @@ use term_core::Term;
 use term_operand::Operand;
 use term_text::read_terms;
 
-/// Whether an operand is exactly equal to a term.
+/// Returns whether an operand is exactly equal to a term.
 fn is_equal(term: &Term, operand: Operand<'_>) -> bool {
     let same = Primitive::Function(Function::Comparison(Comparison::ExactlyEqual));
     matches!(
@@ -18,7 +18,7 @@ fn is_equal(term: &Term, operand: Operand<'_>) -> bool {
     )
 }
 
-/// Puts the list of those terms at the end to which an operand is exactly equal.
+/// Appends the list of those terms to which an operand is exactly equal.
 fn with_equals(out: Outcome, operand: Operand<'_>, terms: &[Term]) -> Outcome {
     let mut out = out.open_list();
     for term in terms {
@@ -29,8 +29,7 @@ fn with_equals(out: Outcome, operand: Operand<'_>, terms: &[Term]) -> Outcome {
     out.close_list()
 }
 
-/// Puts the term that an operand is at the end, and the lists of those terms to which it and its copy are exactly
-/// equal.
+/// Appends the term that an operand is, and the lists of those terms to which it and its copy are exactly equal.
 fn with_operand(
     alloc: Global,
     out: Outcome,
@@ -47,12 +46,13 @@ fn with_operand(
     text
 }
 
-/// A copy of the only element of a list of one tail or none.
+/// Returns a copy of the only element of a list, which is the tail, or no tail for an empty list. Returns `None` if
+/// memory runs out.
 fn tail(alloc: Global, tails: &Term) -> Option<Option<Term>> {
     copy_tail(elements(tails)?.first()).ok()
 }
 
-/// The list of one more element, of these and of one tail or none.
+/// Returns the list of one more element, of these elements and of the tail.
 fn list(alloc: Global, listed: &Term, tails: &Term) -> Option<Term> {
     let listed = elements(listed)?;
     let mut terms = Vec::new(alloc);
@@ -67,7 +67,8 @@ fn list(alloc: Global, listed: &Term, tails: &Term) -> Option<Term> {
     }
 }
 
-/// The term that the rest of these elements and of one tail or none is, and the terms that are equal to it.
+/// Returns the text of the term that the rest of these elements and of the tail is, and of the terms that are equal to
+/// it.
 fn rest(alloc: Global, listed: &Term, tails: &Term, terms: &Term) -> Option<Vec<u8>> {
     let list = list(alloc, listed, tails)?;
     let text = with_operand(alloc, Outcome::tuple(alloc), Operand::Rest(&list, 1), terms);
@@ -75,7 +76,7 @@ fn rest(alloc: Global, listed: &Term, tails: &Term, terms: &Term) -> Option<Vec<
     text
 }
 
-/// The first element of a list, what follows it, and the terms that are equal to that.
+/// Returns the text of the first element of a list, of what follows it, and of the terms that are equal to that.
 fn split(alloc: Global, list: &Term, terms: &Term) -> Option<Vec<u8>> {
     let Some((first, follows)) = Operand::Term(list).split() else {
         return word(alloc, "none");
@@ -83,7 +84,7 @@ fn split(alloc: Global, list: &Term, terms: &Term) -> Option<Vec<u8>> {
     with_operand(alloc, Outcome::tuple(alloc).term(first), follows, terms)
 }
 
-/// Puts a truth value at the end, or none.
+/// Appends a truth value, or `none`.
 fn with_truth(out: Outcome, truth: Option<bool>) -> Outcome {
     match truth {
         Some(value) => out.truth(value),
@@ -91,7 +92,7 @@ fn with_truth(out: Outcome, truth: Option<bool>) -> Outcome {
     }
 }
 
-/// Puts an integer at the end.
+/// Appends an integer.
 fn with_integer(out: Outcome, value: i64) -> Outcome {
     let term: Term = Term::int(value);
     let out = out.term(&term);
@@ -99,7 +100,7 @@ fn with_integer(out: Outcome, value: i64) -> Outcome {
     out
 }
 
-/// Puts a number at the end, or none.
+/// Appends a number, or `none`.
 fn with_number(out: Outcome, number: Option<i64>) -> Outcome {
     match number {
         Some(value) => with_integer(out, value),
@@ -107,19 +108,19 @@ fn with_number(out: Outcome, number: Option<i64>) -> Outcome {
     }
 }
 
-/// Puts a truth value and a number at the end, or none of each.
+/// Appends a truth value and a number, or `none` for each.
 pub(crate) fn with_values(out: Outcome, truth: Option<bool>, number: Option<i64>) -> Outcome {
     with_number(with_truth(out, truth), number)
 }
 
-/// The truth value and the number that an operand is.
+/// Returns the text of the truth value and of the number that an operand is.
 fn values(alloc: Global, operand: Operand<'_>) -> Option<Vec<u8>> {
     let out = Outcome::tuple(alloc);
     with_values(out, operand.boolean(), operand.integer()).end()
 }
 
-/// The size of what is left behind the first element of a list.
-fn size_behind_first(alloc: Global, list: &Term) -> Option<Vec<u8>> {
+/// Returns the text of the size of what follows the first element of a list.
+fn size_after_first(alloc: Global, list: &Term) -> Option<Vec<u8>> {
     let Ok(rest) = Operand::Rest(list, 1).to_term(alloc) else {
         return None;
     };
@@ -128,22 +129,22 @@ fn size_behind_first(alloc: Global, list: &Term) -> Option<Vec<u8>> {
     text
 }
 
-/// The size of what is left behind the first element of the list of a text's terms and of one tail or none, or the
-/// refusal of that list.
+/// Makes the list of a text's terms and of the tail. Returns the text of the size of what follows its first element, or
+/// of the fault of that list.
 fn rest_size(alloc: Global, listed: &Term, tails: &Term) -> Option<Vec<u8>> {
     let listed = text(alloc, listed)?;
     let terms = read_terms(alloc, listed.as_slice()).ok();
     let (terms, tail) = terms.zip(tail(alloc, tails))?;
     let made = Term::list(alloc, terms, tail);
     let text = match &made {
-        Ok(list) => size_behind_first(alloc, list),
+        Ok(list) => size_after_first(alloc, list),
         Err(refusal) => refused(alloc, refusal.fault),
     };
     drop(made);
     text
 }
 
-/// The term that an operand is.
+/// Returns the text of the term that an operand is.
 fn term(alloc: Global, operand: Operand<'_>) -> Option<Vec<u8>> {
     let Ok(term) = operand.to_term(alloc) else {
         return None;
@@ -153,7 +154,7 @@ fn term(alloc: Global, operand: Operand<'_>) -> Option<Vec<u8>> {
     text
 }
 
-/// What comes of a row of operands.
+/// Returns the result of a row of operands, or `None` if there is no such row.
 pub(crate) fn came(alloc: Global, kind: &str, parts: &[Term], forms: usize) -> Option<Vec<u8>> {
     match (kind, parts) {
         ("rest", [listed, tails, terms, _]) => rest(alloc, listed, tails, terms),

@@ -1,4 +1,4 @@
-//! Terms that are read as specifications, and what these and their code answer.
+//! Terms that are read as specifications, and the answers of these and of their code.
 use kit_code::{agrees, answers_of, answers_of_text};
 use kit_rows::{Outcome, canonical, elements, numbered, text, word};
 use mspec_reader::read_spec;
@@ -7,7 +7,7 @@ use std::alloc::Global;
 use term_core::Term;
 use term_text::read_terms;
 
-/// The number of a fault, and the clause and the variable that it names.
+/// Returns the text of the error code of a fault, and of the clause and the variable that it names.
 fn fault_text(alloc: Global, fault: SpecFault) -> Option<Vec<u8>> {
     let number = usize::from(fault.number());
     let out = Outcome::tuple(alloc).word("refused").number(number);
@@ -18,7 +18,7 @@ fn fault_text(alloc: Global, fault: SpecFault) -> Option<Vec<u8>> {
     }
 }
 
-/// How many clauses the specification has that a term is read as, or its fault.
+/// Returns the text of the number of clauses of the specification that a term is read as, or of its fault.
 fn read(alloc: Global, term: &Term) -> Option<Vec<u8>> {
     match read_spec(alloc, term) {
         Ok(spec) => {
@@ -30,7 +30,8 @@ fn read(alloc: Global, term: &Term) -> Option<Vec<u8>> {
     }
 }
 
-/// The same of the first term of a text.
+/// Returns the text of the number of clauses of the specification that the first term of a text is read as, or of its
+/// fault.
 fn read_text(alloc: Global, given: &[u8]) -> Option<Vec<u8>> {
     let Ok(terms) = read_terms(alloc, given) else {
         return None;
@@ -43,7 +44,8 @@ fn read_text(alloc: Global, given: &[u8]) -> Option<Vec<u8>> {
     text
 }
 
-/// Whether the code of the specification that a term is read as answers what that does, on each of these objects.
+/// Returns whether the code of the specification that a term is read as gives the same answers as the specification on
+/// each of these objects. Returns `None` if the term is no specification or memory runs out.
 fn term_agrees(alloc: Global, term: &Term, objects: &[Term]) -> Option<bool> {
     let Ok(specification) = read_spec(alloc, term) else {
         return None;
@@ -53,7 +55,8 @@ fn term_agrees(alloc: Global, term: &Term, objects: &[Term]) -> Option<bool> {
     agree
 }
 
-/// The first of these specifications of which the code answers something else on one of these objects.
+/// Returns the text of the first of these specifications whose code gives another answer on one of these objects;
+/// `same` if there is none.
 fn all_agree(alloc: Global, specifications: &[Term], objects: &[Term]) -> Option<Vec<u8>> {
     for specification in specifications {
         if !term_agrees(alloc, specification, objects)? {
@@ -63,7 +66,8 @@ fn all_agree(alloc: Global, specifications: &[Term], objects: &[Term]) -> Option
     word(alloc, "same")
 }
 
-/// Whether the code of the first term of a text answers what that term does as a specification, on those behind it.
+/// Returns whether the code of the first term of a text gives the same answers as that term does as a specification, on
+/// the terms that follow it: `same` or `other`.
 fn agrees_on_text(alloc: Global, given: &[u8]) -> Option<Vec<u8>> {
     let Ok(terms) = read_terms(alloc, given) else {
         return None;
@@ -76,7 +80,7 @@ fn agrees_on_text(alloc: Global, given: &[u8]) -> Option<Vec<u8>> {
     word(alloc, if agrees? { "same" } else { "other" })
 }
 
-/// What comes of a row of a text.
+/// Returns the result of a row of a text and the expected result.
 fn came_of_text(alloc: Global, kind: &str, given: &Term) -> Option<Vec<u8>> {
     match kind {
         "spec_text" => read_text(alloc, text(alloc, given)?.as_slice()),
@@ -86,7 +90,7 @@ fn came_of_text(alloc: Global, kind: &str, given: &Term) -> Option<Vec<u8>> {
     }
 }
 
-/// What comes of a row of specifications and objects.
+/// Returns the result of a row of specifications and objects.
 fn came_of_two(alloc: Global, kind: &str, given: &Term, objects: &Term) -> Option<Vec<u8>> {
     match kind {
         "answers" => answers_of(alloc, alloc, given, elements(objects)?),
@@ -95,7 +99,7 @@ fn came_of_two(alloc: Global, kind: &str, given: &Term, objects: &Term) -> Optio
     }
 }
 
-/// What comes of a row of specifications.
+/// Returns the result of a row of specifications, or `None` if there is no such row.
 pub(crate) fn came(alloc: Global, kind: &str, parts: &[Term]) -> Option<Vec<u8>> {
     match parts {
         [term, _] if kind == "spec" => read(alloc, term),

@@ -1,4 +1,4 @@
-//! Calls with each request for memory refused in turn, and calls with each refused from the first one on that they
+//! Calls with each allocation failing in turn, and calls in which each allocation fails from the first one on that they
 //! make.
 use crate::codes::{self, GivenCode};
 use kit_code::{
@@ -13,7 +13,7 @@ use std::alloc::{Allocator, Global};
 use term_core::{Refused, Term};
 use verifier::{BodyFault, Fault, verify};
 
-/// Whether code that was built has these parts.
+/// Returns the text of whether code that was built has these parts: `built` or `other_code`.
 fn whole<A: Allocator>(alloc: Global, code: &Code<A>, parts: &Parts<A>) -> Option<Vec<u8>> {
     if is_code(code, parts) {
         word(alloc, "built")
@@ -22,7 +22,8 @@ fn whole<A: Allocator>(alloc: Global, code: &Code<A>, parts: &Parts<A>) -> Optio
     }
 }
 
-/// Whether code is built of these parts; none where it wants memory, hands back what it was given and keeps the rest.
+/// Returns the text of whether code is built of these parts, or `None` if memory runs out; what was given is then
+/// returned, and the rest kept.
 fn built_of<A: Allocator + Copy>(
     alloc: Global,
     heap: A,
@@ -39,7 +40,7 @@ fn built_of<A: Allocator + Copy>(
     text
 }
 
-/// The same of the parts that a term says.
+/// Returns the text of whether code is built of the parts that a term describes, or `None` if memory runs out.
 fn built<A: Allocator + Copy>(alloc: Global, heap: A, term: &Term<A>) -> Option<Vec<u8>> {
     let (parts, wanted) = parts_of(heap, term).zip(parts_of(heap, term))?;
     let text = built_of(alloc, heap, parts, &wanted);
@@ -47,8 +48,8 @@ fn built<A: Allocator + Copy>(alloc: Global, heap: A, term: &Term<A>) -> Option<
     text
 }
 
-/// What the verifier says of code that came back: why it is refused, and where memory was wanted, what comes of it once
-/// more.
+/// Returns the text of the result of the verifier for code that it returned: why it is rejected, or the result of a
+/// second attempt if memory ran out.
 fn once_more<A: Allocator + Copy>(
     alloc: Global,
     heap: A,
@@ -73,7 +74,8 @@ fn once_more<A: Allocator + Copy>(
     text
 }
 
-/// What the verifier says of code. Where it wants memory, the code comes back and is verified again.
+/// Returns the text of the result of the verifier for code. If memory runs out, the code is returned and verified
+/// again.
 fn verdict_of<A: Allocator + Copy>(
     alloc: Global,
     heap: A,
@@ -90,7 +92,7 @@ fn verdict_of<A: Allocator + Copy>(
     }
 }
 
-/// The same of the code that a term says.
+/// Returns the text of the result of the verifier for the code that a term describes.
 fn verdict<A: Allocator + Copy>(alloc: Global, heap: A, term: &Term<A>) -> Option<Vec<u8>> {
     let (code, parts) = code_of(heap, term).zip(parts_of(heap, term))?;
     let text = verdict_of(alloc, heap, code, &parts);
@@ -98,7 +100,7 @@ fn verdict<A: Allocator + Copy>(alloc: Global, heap: A, term: &Term<A>) -> Optio
     text
 }
 
-/// Whether a term is read as a specification.
+/// Returns the text of whether a term is read as a specification: `ok` or `refused`. Returns `None` if memory runs out.
 fn read<A: Allocator + Copy>(alloc: Global, heap: A, term: &Term<A>) -> Option<Vec<u8>> {
     let specification = read_spec(heap, term);
     let text = match &specification {
@@ -110,7 +112,7 @@ fn read<A: Allocator + Copy>(alloc: Global, heap: A, term: &Term<A>) -> Option<V
     text
 }
 
-/// What comes of a call on a term.
+/// Returns the result of the call of this name on a term, or `None` if memory runs out.
 fn outcome_of<A: Allocator + Copy>(
     alloc: Global,
     heap: A,
@@ -126,7 +128,7 @@ fn outcome_of<A: Allocator + Copy>(
     }
 }
 
-/// The same on the term that a text says.
+/// Returns the result of the call of this name on the term that a text spells, or `None` if memory runs out.
 fn outcome<A: Allocator + Copy>(
     alloc: Global,
     heap: A,
@@ -139,7 +141,7 @@ fn outcome<A: Allocator + Copy>(
     text
 }
 
-/// The calls of rows of refused memory.
+/// The calls of rows with failing allocations.
 struct CodeCalls;
 
 impl Calls for CodeCalls {
@@ -163,7 +165,8 @@ impl Calls for CodeCalls {
         }
     }
 
-    // Atoms are collected from characters, for which room is asked for first and done without where it is refused.
+    // Atoms are collected from characters, for which room is allocated first; if that fails, the call goes on without
+    // it.
     fn asks_again(call: &str) -> bool {
         matches!(
             call,
@@ -183,7 +186,7 @@ impl Loads for CodeCalls {
     }
 }
 
-/// What comes of a row of a text and of what is wanted, where each request is refused alone.
+/// Returns the result of a row of a text and the expected text, in which each allocation fails alone.
 fn again(alloc: Global, kind: &str, parts: &[Term]) -> Option<Vec<u8>> {
     let [given, _] = parts else {
         return None;
@@ -191,7 +194,7 @@ fn again(alloc: Global, kind: &str, parts: &[Term]) -> Option<Vec<u8>> {
     swept::<CodeCalls>(alloc, kind, text(alloc, given)?.as_slice())
 }
 
-/// What comes of a row of refused memory.
+/// Returns the result of a row with failing allocations, or `None` if there is no such row.
 pub(crate) fn came(alloc: Global, kind: &str, parts: &[Term]) -> Option<Vec<u8>> {
     match kind {
         "run_without" | "run_true_without" => without_row::<CodeCalls>(alloc, kind, parts),

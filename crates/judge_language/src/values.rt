@@ -1,4 +1,4 @@
-//! Values: what calls over them give, borrowed or made, and what is read of their copies.
+//! Values: the results of calls over them, borrowed or made, and what is read of their copies.
 use crate::calls::{is_in_form, operand, operands, tagged_operand};
 use crate::operands::with_values;
 use kit_rows::{Outcome, elements, primitive, word};
@@ -12,7 +12,7 @@ const fn is_borrowed(value: &Value<'_>) -> bool {
     !matches!(value, Value::Made(_))
 }
 
-/// An operand as a value, as it stands or as a copy that was made.
+/// Returns an operand as a borrowed value, or as a copy that was made.
 fn value<'a>(alloc: Global, operand: Operand<'a>, is_made: bool) -> Option<Value<'a>> {
     if is_made {
         Some(Value::Made(operand.to_term(alloc).ok()?))
@@ -21,7 +21,7 @@ fn value<'a>(alloc: Global, operand: Operand<'a>, is_made: bool) -> Option<Value
     }
 }
 
-/// These operands as values, of which the last may be made.
+/// Returns these operands as values, of which the last may be made.
 fn values<'a>(alloc: Global, operands: &[Operand<'a>], is_made: bool) -> Option<Vec<Value<'a>>> {
     let (last, before) = operands.split_last()?;
     let mut values = Vec::new(alloc);
@@ -32,7 +32,7 @@ fn values<'a>(alloc: Global, operands: &[Operand<'a>], is_made: bool) -> Option<
     Some(values)
 }
 
-/// The text of a value that a call gives.
+/// Returns the text of a value that is the result of a call, and of whether it is borrowed.
 fn value_text(alloc: Global, function: Primitive, value: &Value<'_>) -> Option<Vec<u8>> {
     let tag = match (is_in_form(function, value.operand()), is_borrowed(value)) {
         (true, true) => "borrowed",
@@ -42,7 +42,7 @@ fn value_text(alloc: Global, function: Primitive, value: &Value<'_>) -> Option<V
     tagged_operand(alloc, tag, value.operand())
 }
 
-/// What a call over values gives.
+/// Returns the text of the result of a call over values.
 fn given(alloc: Global, function: Primitive, values: &[Value<'_>]) -> Option<Vec<u8>> {
     let Ok(given) = call_values(&alloc, function, values) else {
         return None;
@@ -55,7 +55,7 @@ fn given(alloc: Global, function: Primitive, values: &[Value<'_>]) -> Option<Vec
     text
 }
 
-/// What the call of a name with a list of terms gives, of which the last may be made.
+/// Returns the text of the result of the call of this name with a list of terms, of which the last may be made.
 fn called(alloc: Global, name: &Term, list: &Term, forms: usize, is_made: bool) -> Option<Vec<u8>> {
     let terms = elements(list)?;
     let function = primitive(name, terms.len())?;
@@ -64,7 +64,7 @@ fn called(alloc: Global, name: &Term, list: &Term, forms: usize, is_made: bool) 
     given(alloc, function, values.as_slice())
 }
 
-/// Whether a copy of a value is borrowed where it is.
+/// Returns whether a copy of a value is borrowed exactly if the value is.
 fn is_copied_in_form(value: &Value<'_>) -> Option<bool> {
     let Ok(copy) = value.copy() else {
         return None;
@@ -74,7 +74,7 @@ fn is_copied_in_form(value: &Value<'_>) -> Option<bool> {
     Some(is_so)
 }
 
-/// The truth value and the number that a copy of a value is.
+/// Returns the truth value and the number that a copy of a value is.
 fn copied_values(value: &Value<'_>) -> Option<(Option<bool>, Option<i64>)> {
     let Ok(copy) = value.copy() else {
         return None;
@@ -84,7 +84,7 @@ fn copied_values(value: &Value<'_>) -> Option<(Option<bool>, Option<i64>)> {
     Some(values)
 }
 
-/// The term that a copy of a value becomes.
+/// Returns the term that a copy of a value becomes.
 fn copied_term(alloc: Global, value: &Value<'_>) -> Option<Term> {
     let Ok(copy) = value.copy() else {
         return None;
@@ -92,7 +92,8 @@ fn copied_term(alloc: Global, value: &Value<'_>) -> Option<Term> {
     copy.into_term(alloc).ok()
 }
 
-/// The term, the truth value and the number that the copies of a value are, which are borrowed where it is.
+/// Returns the text of the term, the truth value and the number that copies of a value are; `in_another_form` if a copy
+/// is not borrowed exactly if the value is.
 fn copies(alloc: Global, value: &Value<'_>) -> Option<Vec<u8>> {
     if !is_copied_in_form(value)? {
         return word(alloc, "in_another_form");
@@ -104,7 +105,7 @@ fn copies(alloc: Global, value: &Value<'_>) -> Option<Vec<u8>> {
     text
 }
 
-/// What the copies of the value are that an operand is, which may be made.
+/// Returns the text of what copies are of the value that an operand is, which may be made.
 fn copied(alloc: Global, operand: Operand<'_>, is_made: bool) -> Option<Vec<u8>> {
     let value = value(alloc, operand, is_made)?;
     let text = copies(alloc, &value);
@@ -112,7 +113,7 @@ fn copied(alloc: Global, operand: Operand<'_>, is_made: bool) -> Option<Vec<u8>>
     text
 }
 
-/// What comes of a row of values.
+/// Returns the result of a row of values, or `None` if there is no such row.
 pub(crate) fn came(alloc: Global, kind: &str, parts: &[Term], forms: usize) -> Option<Vec<u8>> {
     match (kind, parts) {
         ("borrowed_call", [name, terms, _]) => called(alloc, name, terms, forms, false),

@@ -1,5 +1,6 @@
-//! What a session of a bag was answered, beside a replay of its own calls and what it could know of the others'. At its
-//! own keys each list is known; at other keys an object that is gone never comes back, since none is put in twice.
+//! Compares the answers to a session of a bag with a replay of its own calls and with what it could know of the others'
+//! calls. At its own keys each list is known. At other keys an object that was deleted never comes back, since none is
+//! inserted twice.
 use crate::event::Event;
 use crate::keys::{COUNTED, KEYS, Object, owner};
 use crate::puts::{Caller, Puts};
@@ -8,29 +9,29 @@ use part_core::TableKind;
 use std::alloc::Global;
 use std::mem;
 
-/// A replay of the events of a session.
+/// A replay of the events of a session of a bag.
 #[derive(Drop)]
 pub(crate) struct BagReplay<'a> {
     session: Caller<'a>,
     kind: TableKind,
-    /// The objects that are there at the session's own keys, and at others those that it saw or put in and that may
-    /// still be there; those of a key in their order.
+    /// The objects that are there at the session's own keys, and at other keys those that it saw or inserted and that
+    /// may still be there. Those of a key are in their order.
     there: Vec<Object>,
-    /// Those that are kept while others are replaced.
+    /// The objects of other keys, while those of one key are replaced.
     kept: Vec<Object>,
-    /// At which event each object was gone, if it was.
+    /// At which event each object was deleted, if it was.
     gone: Vec<Option<u32>>,
     /// The objects of a list that is being read.
     items: Vec<Object>,
-    /// The objects and the keys that the walk under way has met.
+    /// The objects, and below the keys, that the current walk has met.
     walked: Vec<Object>,
     toured: Vec<u32>,
-    /// How many events there were, and how many when the walk under way began.
+    /// The number of events so far, and below the number when the current walk began.
     time: u32,
     begun: u32,
 }
 
-/// How often an object stands in a list.
+/// Returns how many times an object is in a list.
 fn times(objects: &[Object], object: Object) -> usize {
     let mut count: usize = 0;
     for present in objects {
@@ -39,7 +40,7 @@ fn times(objects: &[Object], object: Object) -> usize {
     count
 }
 
-/// How many objects of a key stand in a list.
+/// Returns how many objects of a key are in a list.
 fn count_at(objects: &[Object], key: u32) -> usize {
     let mut count: usize = 0;
     for present in objects {
@@ -48,7 +49,7 @@ fn count_at(objects: &[Object], key: u32) -> usize {
     count
 }
 
-/// Whether the objects of a key that stand in a list are these, in their order.
+/// Returns whether the objects of a key in a list are these, in their order.
 fn are_at(objects: &[Object], key: u32, items: &[Object]) -> bool {
     let mut count: usize = 0;
     for present in objects {
@@ -62,7 +63,7 @@ fn are_at(objects: &[Object], key: u32, items: &[Object]) -> bool {
     count == items.len()
 }
 
-/// Objects at a key at which one session alone writes are that session's.
+/// Checks that objects at a key at which one session alone writes are objects of that session.
 fn are_of_owner(key: u32, objects: &[Object]) -> Result<(), Wrong> {
     for object in objects {
         if object.key != key || owner(key) != Some(object.session) {
@@ -72,7 +73,7 @@ fn are_of_owner(key: u32, objects: &[Object]) -> Result<(), Wrong> {
     Ok(())
 }
 
-/// An object is gone at this event, if it wasn't before.
+/// Records that an object was deleted at this event, if it was not deleted before.
 fn goes(gone: &mut [Option<u32>], puts: &Puts, object: Object, time: u32) {
     if let Some(place) = puts.place(object) {
         if let Some(at) = gone.get_mut(place) {
@@ -83,13 +84,13 @@ fn goes(gone: &mut [Option<u32>], puts: &Puts, object: Object, time: u32) {
     }
 }
 
-/// Puts an object behind others.
+/// Appends an object. Fails with `NoMemory`.
 fn push(objects: &mut Vec<Object>, object: Object) -> Result<(), Wrong> {
     check(objects.push(object).is_ok(), Wrong::NoMemory)
 }
 
 impl<'a> BagReplay<'a> {
-    /// One without events, of a session among those who made the objects; none for want of memory.
+    /// Returns a replay without events, of a session among those that made the objects, or `None` if memory runs out.
     pub(crate) fn new(
         alloc: Global,
         number: u8,
@@ -113,12 +114,13 @@ impl<'a> BagReplay<'a> {
         })
     }
 
-    /// Whether a key has no objects.
+    /// Returns whether a key has no objects.
     fn is_empty(&self, key: u32) -> bool {
         count_at(self.there.as_slice(), key) == 0
     }
 
-    /// Whether another session alone writes at a key: its objects are put in again there, of which nothing is known here.
+    /// Returns whether another session alone writes at a key. Objects may be inserted there again, and nothing is known
+    /// of them here.
     fn is_of_another(&self, key: u32) -> bool {
         match owner(key) {
             Some(number) => number != self.session.number,
@@ -126,8 +128,8 @@ impl<'a> BagReplay<'a> {
         }
     }
 
-    /// The objects that were read last, none if none were, are those at a key now: what was there before and isn't among
-    /// them is gone.
+    /// Makes the objects that were read last (none if none were) those at a key now. An object that was there before
+    /// and is not among them is deleted.
     fn replaces(&mut self, key: u32) -> Result<(), Wrong> {
         if KEYS <= key {
             return Err(Wrong::NoKey(key));
@@ -152,7 +154,8 @@ impl<'a> BagReplay<'a> {
         check(come, Wrong::NoMemory)
     }
 
-    /// An object that others may write, too, was there at some moment since the walk began, or is there now.
+    /// Checks that an object that others may write, too, was there at some moment after the event `since`, or may be
+    /// there now.
     fn may_be_there(&self, object: Object, since: u32) -> Result<(), Wrong> {
         let Some(place) = self.session.puts.place(object) else {
             return Err(Wrong::NeverPut(object));
@@ -166,7 +169,7 @@ impl<'a> BagReplay<'a> {
         }
     }
 
-    /// What was read may be at a key at which others write, too.
+    /// Checks that the objects that were read may be those at a key at which others write, too.
     fn may_list(&self, key: u32) -> Result<(), Wrong> {
         for object in self.items.as_slice() {
             if object.key != key || times(self.items.as_slice(), *object) != 1 {
@@ -177,7 +180,7 @@ impl<'a> BagReplay<'a> {
         Ok(())
     }
 
-    /// The objects that were read last are those at a key.
+    /// Handles the event that the objects that were read last are those at a key.
     fn lists(&mut self, key: u32) -> Result<(), Wrong> {
         if self.is_of_another(key) {
             let listed = are_of_owner(key, self.items.as_slice());
@@ -192,7 +195,7 @@ impl<'a> BagReplay<'a> {
         self.replaces(key)
     }
 
-    /// Puts an object behind those of its key; in a bag it changes nothing where it is there.
+    /// Inserts an object after those of its key. In a bag this changes nothing if an equal object is there.
     fn puts(&mut self, object: Object) -> Result<(), Wrong> {
         if KEYS <= object.key {
             return Err(Wrong::NoKey(object.key));
@@ -203,7 +206,7 @@ impl<'a> BagReplay<'a> {
         push(&mut self.there, object)
     }
 
-    /// An object was to be put in where its key had none.
+    /// Handles `insert_new` of an object, given whether it was inserted.
     fn puts_new(&mut self, object: Object, fresh: bool) -> Result<(), Wrong> {
         let key = object.key;
         self.session.makes(object);
@@ -217,7 +220,7 @@ impl<'a> BagReplay<'a> {
         push(&mut self.there, object)
     }
 
-    /// Whether the key has an object, as the session was told.
+    /// Handles the answer whether a key has an object.
     fn is_told(&mut self, key: u32, there: bool) -> Result<(), Wrong> {
         if self.session.owns(key) && self.is_empty(key) == there {
             return Err(Wrong::NotItsOwn(key));
@@ -228,7 +231,7 @@ impl<'a> BagReplay<'a> {
         self.replaces(key)
     }
 
-    /// The session deletes an object of its own, where it is there, with all that are equal to it.
+    /// Deletes an object of the session's own and all that are equal to it, if it is there.
     fn removes_object(&mut self, object: Object) -> Result<(), Wrong> {
         if !self.session.owns(object.key) && self.session.may_meet(object) {
             goes(
@@ -246,14 +249,15 @@ impl<'a> BagReplay<'a> {
         self.replaces(object.key)
     }
 
-    /// A walk begins.
+    /// Begins a walk.
     fn begins(&mut self) {
         self.begun = self.time;
         self.walked.clear();
         self.toured.clear();
     }
 
-    /// A walk answers an object, which was there at some moment since it began, and not more often than it is there.
+    /// Handles an object that a walk gave. It was there at some moment since the walk began, and is given at most as
+    /// many times as it is there.
     fn walks_by(&mut self, object: Object) -> Result<(), Wrong> {
         let key = object.key;
         if self.is_of_another(key) {
@@ -274,7 +278,7 @@ impl<'a> BagReplay<'a> {
         push(&mut self.walked, object)
     }
 
-    /// Whether the tour met a key.
+    /// Returns whether the tour met a key.
     fn is_toured(&self, key: u32) -> bool {
         for met in self.toured.as_slice() {
             if *met == key {
@@ -284,7 +288,7 @@ impl<'a> BagReplay<'a> {
         false
     }
 
-    /// A tour meets a key.
+    /// Handles a key that a tour meets, which it must not have met before.
     fn meets(&mut self, key: u32) -> Result<(), Wrong> {
         if self.is_toured(key) {
             return Err(Wrong::MetTwice(key));
@@ -292,7 +296,8 @@ impl<'a> BagReplay<'a> {
         check(self.toured.push(key).is_ok(), Wrong::NoMemory)
     }
 
-    /// A walk ends: of the session's own keys it has met all objects, or, where it was a tour, each that has some.
+    /// Handles the end of a walk. It has met all objects of the session's own keys or, if it was a tour, each of these
+    /// keys that has objects.
     fn ends(&self) -> Result<(), Wrong> {
         for key in self.session.keys() {
             let there = count_at(self.there.as_slice(), key);
@@ -308,7 +313,7 @@ impl<'a> BagReplay<'a> {
         Ok(())
     }
 
-    /// How many of the session's own objects pass a test.
+    /// Returns how many of the session's own objects pass a test of parity, or all of them for `None`.
     fn counts(&self, parity: Option<u32>) -> u64 {
         let mut count: u64 = 0;
         for object in self.there.as_slice() {
@@ -319,7 +324,7 @@ impl<'a> BagReplay<'a> {
         count
     }
 
-    /// The session deletes its own objects of a parity at a key, and leaves the others.
+    /// Deletes the session's own objects of a parity at a key, and keeps the others.
     fn removes_at(&mut self, key: u32, parity: u32) -> Result<(), Wrong> {
         for present in self.there.as_slice() {
             if present.key == key && !present.is_of(Some(parity)) {
@@ -329,7 +334,7 @@ impl<'a> BagReplay<'a> {
         self.replaces(key)
     }
 
-    /// The same at each key; it was told how many there were.
+    /// Deletes the session's own objects of a parity at each of its keys. `count` was reported as their number.
     fn removes_all(&mut self, parity: u32, count: u64) -> Result<(), Wrong> {
         if self.counts(Some(parity)) != count {
             return Err(Wrong::Miscounted(count));
@@ -340,7 +345,7 @@ impl<'a> BagReplay<'a> {
         Ok(())
     }
 
-    /// The session deleted so many objects at the keys whose objects are counted, one at each at most.
+    /// Handles that the session deleted `count` objects at the keys whose objects are counted, at most one at each.
     fn clears(&mut self, count: u64) -> Result<(), Wrong> {
         if u64::from(KEYS - COUNTED) < count {
             return Err(Wrong::Miscounted(count));
@@ -351,7 +356,7 @@ impl<'a> BagReplay<'a> {
         Ok(())
     }
 
-    /// Goes on by an event of a walk, or of a query.
+    /// Handles an event of a walk or of a query.
     fn walks_on(&mut self, event: Event) -> Result<(), Wrong> {
         match event {
             Event::Begun => {
@@ -369,7 +374,7 @@ impl<'a> BagReplay<'a> {
         }
     }
 
-    /// Goes on by an event.
+    /// Handles an event.
     fn goes_on(&mut self, event: Event) -> Result<(), Wrong> {
         self.time = self.time.saturating_add(1);
         match event {
@@ -392,7 +397,7 @@ impl<'a> BagReplay<'a> {
         }
     }
 
-    /// Goes through all events of the session, and looks at what is left at each key.
+    /// Handles all events of the session, and then what is left at each key.
     pub(crate) fn goes_through(&mut self, events: &[Event], left: &[Object]) -> Result<(), Wrong> {
         for event in events {
             self.goes_on(*event)?;
@@ -403,7 +408,7 @@ impl<'a> BagReplay<'a> {
         Ok(())
     }
 
-    /// Looks at what is left at a key.
+    /// Handles what is left at a key.
     fn looks_at(&mut self, key: u32, left: &[Object]) -> Result<(), Wrong> {
         for object in left {
             if object.key == key {

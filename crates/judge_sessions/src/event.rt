@@ -1,51 +1,51 @@
-//! What a session did and was answered.
+//! What a session did and what it was answered.
 use crate::keys::Object;
 
 /// A call and its answer, as a session records them.
 #[derive(Clone, Copy)]
 pub(crate) enum Event {
-    /// An object was put in.
+    /// An object was inserted.
     Put(Object),
-    /// An object that was put in before was put in again.
+    /// An object that was inserted before was inserted again.
     PutAgain(Object),
-    /// One was to be put in where its key had none, and whether it was.
+    /// An object was to be inserted by `insert_new`, and whether it was.
     PutNew(Object, bool),
-    /// What was found at a key.
+    /// The object that was found at a key, if any.
     Found(u32, Option<Object>),
     /// Whether a key has an object.
     Asked(u32, bool),
-    /// A key's object was deleted.
+    /// The object of a key was deleted.
     Deleted(u32),
-    /// So was an object, where it was there.
+    /// This object was deleted, if it was there.
     DeletedObject(Object),
-    /// What was taken at a key.
+    /// The object that was taken at a key, if any.
     Taken(u32, Option<Object>),
-    /// An object of a list that was found.
+    /// An object of a list that was found, which `Listed` ends.
     Item(Object),
-    /// One of a list that was taken.
+    /// An object of a list that was taken, which `TakenAll` ends.
     ItemTaken(Object),
-    /// The objects before this were found at a key.
+    /// The objects of the list before this were found at a key.
     Listed(u32),
-    /// They were taken there.
+    /// The objects of the list before this were taken at a key.
     TakenAll(u32),
-    /// The table was fixed once more.
+    /// The session fixed the table once more.
     Fixed,
-    /// It was to be released once, and whether it was.
+    /// The session released a fix, and whether it had one.
     Unfixed(bool),
-    /// A walk begins.
+    /// A walk began.
     Begun,
-    /// An object that it answered in a piece.
+    /// An object that a walk gave in a piece.
     Walked(Object),
-    /// A key that it met.
+    /// A key that a walk met.
     Met(u32),
-    /// It ended.
+    /// A walk ended.
     Ended,
     /// How many objects the session has at its own keys.
     Counted(u64),
-    /// Those of even sequence numbers, or of odd ones, were deleted, and how many there were.
+    /// The session's objects of even (0) or odd (1) sequence numbers were deleted, and how many there were.
     Removed(u32, u64),
     /// How many objects the table has.
     CountedAll(u64),
-    /// All objects were deleted at the keys whose objects are counted, and how many there were.
+    /// All objects at the keys whose objects are counted were deleted, and how many there were.
     Cleared(u64),
 }

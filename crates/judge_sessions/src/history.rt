@@ -1,4 +1,4 @@
-//! Histories that rows give: what sessions recorded and what is left, as terms in the place of a run.
+//! Histories that rows give: what sessions recorded and what is left, as terms, instead of those of a run.
 use crate::event::Event;
 use crate::judge::judge;
 use crate::keys::Object;
@@ -11,7 +11,7 @@ use part_core::TableKind;
 use std::alloc::Global;
 use term_core::Term;
 
-/// The truth value that a term is.
+/// Returns the truth value that a term is, or `None`.
 fn truth(term: &Term) -> Option<bool> {
     if is_atom(term, "true") {
         Some(true)
@@ -33,7 +33,7 @@ fn record_word(worker: &mut Worker, word: &str) -> Option<()> {
     worker.record(event)
 }
 
-/// The event of a call with an object.
+/// Returns the event of a call with an object, or `None`.
 fn event_of(call: &str, object: Object) -> Option<Event> {
     match call {
         "insert" => Some(Event::Put(object)),
@@ -43,7 +43,7 @@ fn event_of(call: &str, object: Object) -> Option<Event> {
     }
 }
 
-/// The event of a call with a number.
+/// Returns the event of a call with a number, or `None`.
 fn event_at(call: &str, number: u32) -> Option<Event> {
     match call {
         "delete" => Some(Event::Deleted(number)),
@@ -55,7 +55,7 @@ fn event_at(call: &str, number: u32) -> Option<Event> {
     }
 }
 
-/// The event of a call with a truth value.
+/// Returns the event of a call with a truth value, or `None`.
 fn event_so(call: &str, done: bool) -> Option<Event> {
     match call {
         "unfix" => Some(Event::Unfixed(done)),
@@ -63,7 +63,7 @@ fn event_so(call: &str, done: bool) -> Option<Event> {
     }
 }
 
-/// Records a piece of a walk, or one that was made at once.
+/// Records a piece of a walk, or a whole walk that was made at once.
 fn record_objects(worker: &mut Worker, call: &str, objects: &[Term]) -> Option<()> {
     match call {
         "piece" => record_piece(worker, objects),
@@ -72,7 +72,7 @@ fn record_objects(worker: &mut Worker, call: &str, objects: &[Term]) -> Option<(
     }
 }
 
-/// Records a call and its operand or its answer.
+/// Records a call with its operand or its answer.
 fn record_call(worker: &mut Worker, call: &str, of: &Term) -> Option<()> {
     if let Some(objects) = elements(of) {
         return record_objects(worker, call, objects);
@@ -98,7 +98,7 @@ fn record_list(worker: &mut Worker, call: &str, key: u32, objects: &[Term]) -> O
     }
 }
 
-/// Records a call, its operand that is a number, and its answer.
+/// Records a call with an operand that is a number, and its answer.
 fn record_answer_at(worker: &mut Worker, call: &str, of: u32, answer: &Term) -> Option<()> {
     if let Some(objects) = elements(answer) {
         return record_list(worker, call, of, objects);
@@ -111,7 +111,7 @@ fn record_answer_at(worker: &mut Worker, call: &str, of: u32, answer: &Term) -> 
     worker.record(event?)
 }
 
-/// Records a call, its operand and its answer.
+/// Records a call with its operand and its answer.
 fn record_answer(worker: &mut Worker, call: &str, of: &Term, answer: &Term) -> Option<()> {
     if let Some(number) = number(of) {
         return record_answer_at(worker, call, number, answer);
@@ -122,7 +122,7 @@ fn record_answer(worker: &mut Worker, call: &str, of: &Term, answer: &Term) -> O
     }
 }
 
-/// Records an entry.
+/// Records an entry. Returns `None` if it is none or memory runs out.
 fn record_entry(alloc: Global, worker: &mut Worker, entry: &Term) -> Option<()> {
     let parts = fields(entry);
     let word = match parts {
@@ -147,7 +147,7 @@ fn record_entries(alloc: Global, worker: &mut Worker, entries: &[Term]) -> Optio
     Some(())
 }
 
-/// Puts a session that recorded a list of entries behind others.
+/// Appends a session that recorded a list of entries.
 fn put_session(
     alloc: Global,
     holds_many: bool,
@@ -165,7 +165,7 @@ fn put_session(
     }
 }
 
-/// Puts the sessions that recorded these lists of entries behind others.
+/// Appends the sessions that recorded these lists of entries.
 fn put_sessions(
     alloc: Global,
     holds_many: bool,
@@ -178,7 +178,7 @@ fn put_sessions(
     Some(())
 }
 
-/// Puts what is left in these parts behind other objects.
+/// Appends the objects that are left in these parts.
 fn put_left_of(parts: &[Term], left: &mut Vec<Object>) -> Result<(), Failure> {
     let count = u8::try_from(parts.len()).unwrap_or(u8::MAX);
     let mut number: u8 = 0;
@@ -192,7 +192,7 @@ fn put_left_of(parts: &[Term], left: &mut Vec<Object>) -> Result<(), Failure> {
     Ok(())
 }
 
-/// Judges what sessions recorded, and what is left in parts.
+/// Judges what sessions recorded and what is left in parts.
 fn judged_left(
     alloc: Global,
     kind: TableKind,
@@ -208,7 +208,7 @@ fn judged_left(
     judged
 }
 
-/// Judges a history as what a run recorded is judged; none where its sessions are none.
+/// Judges a history in the way that a run is judged. Returns `None` if its sessions can't be read.
 pub(crate) fn judged_history(
     alloc: Global,
     kind: TableKind,

@@ -1,4 +1,5 @@
-//! All sessions together: what is left of the table at the end, beside what each did and was answered.
+//! Judges all sessions together: what is left of the table at the end, compared with what each session did and was
+//! answered.
 use crate::bags::BagReplay;
 use crate::event::Event;
 use crate::keys::{COUNTED, KEYS, OPEN, Object, first_at, owner};
@@ -10,7 +11,7 @@ use kit_rows::was_ok;
 use part_core::TableKind;
 use std::alloc::Global;
 
-/// The object that was taken, at a key at which each is put in once.
+/// Returns the object that was taken in this event, at a key at which each object is inserted once.
 fn taken_by(event: Event) -> Option<Object> {
     match event {
         Event::Taken(_, object) => object,
@@ -19,7 +20,7 @@ fn taken_by(event: Event) -> Option<Object> {
     }
 }
 
-/// An object is taken, for the first time.
+/// Records that an object was taken, which must be the first time.
 fn takes(taken: &mut [bool], puts: &Puts, object: Object) -> Result<(), Wrong> {
     let Some(place) = puts.place(object) else {
         return Err(Wrong::NeverPut(object));
@@ -34,7 +35,7 @@ fn takes(taken: &mut [bool], puts: &Puts, object: Object) -> Result<(), Wrong> {
     Ok(())
 }
 
-/// All that a session took.
+/// Records all objects that a session took.
 fn takes_all(taken: &mut [bool], puts: &Puts, events: &[Event]) -> Result<(), Wrong> {
     for event in events {
         if let Some(object) = taken_by(*event) {
@@ -44,7 +45,7 @@ fn takes_all(taken: &mut [bool], puts: &Puts, events: &[Event]) -> Result<(), Wr
     Ok(())
 }
 
-/// All that the sessions took, no object twice.
+/// Records all objects that the sessions took, none of which must be taken twice.
 fn all_take(taken: &mut [bool], puts: &Puts, workers: &[Worker]) -> Result<(), Wrong> {
     for worker in workers {
         takes_all(taken, puts, worker.events.as_slice())?;
@@ -52,7 +53,7 @@ fn all_take(taken: &mut [bool], puts: &Puts, workers: &[Worker]) -> Result<(), W
     Ok(())
 }
 
-/// No object is taken twice.
+/// Checks that no object was taken twice.
 fn are_taken_once(alloc: Global, puts: &Puts, workers: &[Worker]) -> Result<(), Failure> {
     let Ok(mut taken) = Vec::from_elem(alloc, false, puts.keys.len()) else {
         return Err(Failure::Refused);
@@ -65,8 +66,9 @@ fn are_taken_once(alloc: Global, puts: &Puts, workers: &[Worker]) -> Result<(), 
     }
 }
 
-/// By keys, how many objects were put in by `insert_new`, less those that were taken; and behind them, how many were
-/// deleted by queries at the keys whose objects are counted.
+/// Adds to the balance of each key the number of objects inserted by `insert_new`, less those that were taken. The last
+/// balance, after those of the keys, is the number of objects that queries deleted at the keys whose objects are
+/// counted.
 fn add_balance(events: &[Event], balances: &mut [i64]) {
     for event in events {
         let (key, more) = match *event {
@@ -82,7 +84,7 @@ fn add_balance(events: &[Event], balances: &mut [i64]) {
     }
 }
 
-/// As many are left at each key as its balance says, but for those that were deleted by queries.
+/// Checks that as many objects are left at each key as its balance says, except for those that queries deleted.
 fn is_balanced(balances: &[i64], left: &[Object]) -> Result<(), Wrong> {
     let mut deleted = balance_at(balances, KEYS);
     for key in COUNTED..KEYS {
@@ -96,7 +98,7 @@ fn is_balanced(balances: &[i64], left: &[Object]) -> Result<(), Wrong> {
     check(deleted == 0, Wrong::NeverDeleted(deleted))
 }
 
-/// The balance of a key.
+/// Returns the balance of a key, or -1 if there is none.
 fn balance_at(balances: &[i64], key: u32) -> i64 {
     match balances.get(key as usize) {
         Some(balance) => *balance,
@@ -104,7 +106,8 @@ fn balance_at(balances: &[i64], key: u32) -> i64 {
     }
 }
 
-/// At the keys whose objects are counted as many are left as were put in, not taken, and not deleted by queries.
+/// Checks that at the keys whose objects are counted as many are left as were inserted, not taken, and not deleted by
+/// queries.
 fn are_balanced(alloc: Global, workers: &[Worker], left: &[Object]) -> Result<(), Failure> {
     let Ok(mut balances) = Vec::from_elem(alloc, 0, KEYS as usize + 1) else {
         return Err(Failure::Refused);
@@ -120,7 +123,7 @@ fn are_balanced(alloc: Global, workers: &[Worker], left: &[Object]) -> Result<()
     }
 }
 
-/// Some session's last write at the key leaves what is left there.
+/// Returns whether what is left at a key is the result of some session's last write there.
 fn is_last(replays: &[Replay<'_>], key: u32, left: Option<Object>) -> bool {
     match left {
         Some(object) => match replays.get(usize::from(object.session)) {
@@ -141,7 +144,8 @@ fn is_last(replays: &[Replay<'_>], key: u32, left: Option<Object>) -> bool {
     }
 }
 
-/// That holds at each key at which all sessions write in every way.
+/// Checks that what is left is the result of some session's last write, at each key at which all sessions write in
+/// every way.
 fn are_last(replays: &[Replay<'_>], left: &[Object]) -> Result<(), Failure> {
     for key in OPEN..COUNTED {
         if !is_last(replays, key, first_at(left, key)) {
@@ -151,7 +155,7 @@ fn are_last(replays: &[Replay<'_>], left: &[Object]) -> Result<(), Failure> {
     Ok(())
 }
 
-/// A session of a bag, with its record and all that is left.
+/// Judges a session of a bag by its record and by all that is left.
 fn judge_bag(
     alloc: Global,
     kind: TableKind,
@@ -170,7 +174,7 @@ fn judge_bag(
     }
 }
 
-/// A session of a set, with its record and all that is left; its replay is put behind others.
+/// Judges a session of a set by its record and by all that is left, and appends its replay.
 fn judge_set<'a>(
     alloc: Global,
     worker: &Worker,
@@ -190,7 +194,7 @@ fn judge_set<'a>(
     }
 }
 
-/// Each session with its record, and the last writes of all to a set beside what is left.
+/// Judges each session by its record and, for a set, what is left by the last writes of all sessions.
 fn judge_each<'a>(
     alloc: Global,
     kind: TableKind,
@@ -213,7 +217,7 @@ fn judge_each<'a>(
     }
 }
 
-/// What was taken, each session, and what is left of what is counted.
+/// Judges the objects that were taken, each session, and what is left at the keys whose objects are counted.
 fn judge_all(
     alloc: Global,
     kind: TableKind,
@@ -229,7 +233,7 @@ fn judge_all(
     are_balanced(alloc, workers, left)
 }
 
-/// What each session put in; none where a session didn't come to its end, or for want of memory.
+/// Collects what each session inserted. Returns `None` if a session did not complete its calls or memory runs out.
 fn put_all(workers: &[Worker], puts: &mut Puts) -> Option<()> {
     for worker in workers {
         if !worker.is_whole {
@@ -240,7 +244,7 @@ fn put_all(workers: &[Worker], puts: &mut Puts) -> Option<()> {
     Some(())
 }
 
-/// Judges what the sessions of a table recorded, which stand in their order, and what is left.
+/// Judges what the sessions of a table recorded, in the order of their numbers, and what is left.
 pub(crate) fn judge(
     alloc: Global,
     kind: TableKind,

@@ -1,20 +1,20 @@
-//! Keys, and the objects that sessions put in at them.
+//! Keys, and the objects that sessions insert at them.
 use kit_rows::{fields, number};
 use std::alloc::Global;
 use term_core::Term;
 
-/// How many sessions a table has at most.
+/// The maximal number of sessions of a table.
 pub(crate) const SESSIONS: u32 = 16;
-/// How many keys each session has that it alone writes at.
+/// The number of keys of each session at which it alone writes.
 pub(crate) const OWN: u32 = 16;
-/// The first key at which all sessions write in every way; below it each session has its own.
+/// The first key at which all sessions write in every way; the keys below it belong to one session each.
 pub(crate) const OPEN: u32 = SESSIONS * OWN;
-/// The first key at which all sessions write by `insert_new` and `take` alone.
+/// The first key at which all sessions write, only by `insert_new` and `take`; the objects at these keys are counted.
 pub(crate) const COUNTED: u32 = OPEN + 32;
 /// One past the last key.
 pub(crate) const KEYS: u32 = COUNTED + 16;
 
-/// An object `{Key,Session,Sequence}`. No session puts in two with the same sequence number.
+/// An object `{Key,Session,Sequence}`. A session does not insert two objects with the same sequence number.
 #[derive(Clone, Copy, Debug, PartialEq, Eq)]
 pub(crate) struct Object {
     pub(crate) key: u32,
@@ -22,12 +22,12 @@ pub(crate) struct Object {
     pub(crate) sequence: u32,
 }
 
-/// A key as a term.
+/// Returns a key as a term.
 pub(crate) fn key_term(key: u32) -> Term {
     Term::int(i64::from(key))
 }
 
-/// The number of at most 8 bits that a term is.
+/// Returns the value of an integer from 0 to 255, or `None` for any other term.
 pub(crate) fn byte(term: &Term) -> Option<u8> {
     match number(term) {
         Some(number) => u8::try_from(number).ok(),
@@ -36,7 +36,7 @@ pub(crate) fn byte(term: &Term) -> Option<u8> {
 }
 
 impl Object {
-    /// The object as a term.
+    /// Returns the object as a term, or `None` if memory runs out.
     pub(crate) fn term(self, alloc: Global) -> Option<Term> {
         let elements = Vec::from_array(
             alloc,
@@ -50,7 +50,7 @@ impl Object {
         Term::tuple(alloc, elements).ok()
     }
 
-    /// The object that a term is.
+    /// Returns the object that a term is, or `None`.
     pub(crate) fn of_term(term: &Term) -> Option<Object> {
         let Some([key, session, sequence]) = fields(term) else {
             return None;
@@ -65,7 +65,7 @@ impl Object {
         }
     }
 
-    /// Whether its sequence number is of the parity, if one is asked for.
+    /// Returns whether its sequence number has this parity; any has if the parity is `None`.
     pub(crate) fn is_of(self, parity: Option<u32>) -> bool {
         match parity {
             Some(parity) => self.sequence % 2 == parity,
@@ -74,7 +74,8 @@ impl Object {
     }
 }
 
-/// The object of a key, of which there is one at most; none where a term is none.
+/// Returns the object of a key, of which there is at most one. Returns `None` if there are more terms or the term is no
+/// object.
 pub(crate) fn object_of(terms: &[Term]) -> Option<Option<Object>> {
     match terms {
         [] => Some(None),
@@ -83,7 +84,7 @@ pub(crate) fn object_of(terms: &[Term]) -> Option<Option<Object>> {
     }
 }
 
-/// The first object of a key among others.
+/// Returns the first object of a key among these, if there is one.
 pub(crate) fn first_at(objects: &[Object], key: u32) -> Option<Object> {
     for object in objects {
         if object.key == key {
@@ -93,7 +94,7 @@ pub(crate) fn first_at(objects: &[Object], key: u32) -> Option<Object> {
     None
 }
 
-/// The session that alone writes at a key.
+/// Returns the session that alone writes at a key, or `None` if all write there.
 pub(crate) fn owner(key: u32) -> Option<u8> {
     if key < OPEN {
         u8::try_from(key / OWN).ok()

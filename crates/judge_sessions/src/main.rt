@@ -1,17 +1,17 @@
-//! Sessions on threads of their own make random calls at one table, and what they were answered is judged.
+//! Sessions on threads of their own make random calls at one table, and the answers are judged.
 //!
 //! Standard input has a row for each run, `{Seed,Kind,Parts,Sessions,Members,Calls}.`, and for each history that is
-//! judged in the place of a run's, `{history,Said,Name,Kind,Sessions,Parts}.`; of each a line is printed. A
-//! session writes at keys of its own, at keys at which all write, and at keys at which all write by `insert_new` and
-//! `take` alone. What it was answered at its own keys is what a replay of its own calls gives, walks in pieces, counts
-//! and deletions by queries among them. At the others it never meets an object that was not put in there, and none
-//! again that was gone; no object is taken twice; and what is left at the end is some session's last write, as many
-//! objects as were put in and not taken, each in its key's part.
+//! judged instead of that of a run, `{history,Said,Name,Kind,Sessions,Parts}.`. For each a line is printed. A session
+//! writes at keys of its own, at keys at which all write, and at keys at which all write only by `insert_new` and
+//! `take`. The answers at its own keys, including walks in pieces, counts and deletions by queries, must be those of a
+//! replay of its own calls. At the other keys it must not meet an object that was not inserted there, or one that was
+//! deleted before. No object may be taken twice. What is left at the end must be some session's last write, as many
+//! objects as were inserted and not taken, and each in its key's part.
 //!
 //! - `keys`: keys and objects; `event`: what is recorded; `worker`, `walking`: the calls of a session.
-//! - `runs`: a table and its sessions on threads; `history`: what a row says that sessions recorded.
-//! - `replay`: one session's record judged, `bags`: that of a session at a bag, where keys have lists of objects; `puts`:
-//!   what both look up; `judge`: all of them; `wrong`: what can be wrong.
+//! - `runs`: a table and its sessions on threads; `history`: the record of sessions that a row gives.
+//! - `replay`: judges one session's record, `bags`: that of a session of a bag, where keys have lists of objects;
+//!   `puts`: what both look up; `judge`: judges all sessions; `wrong`: what can be wrong.
 #![tactic(auto)]
 
 mod bags;
@@ -43,7 +43,7 @@ use term_core::Term;
 use term_text::read_terms;
 use wrong::Failure;
 
-/// The kind of table that a term names.
+/// Returns the kind of table that a term names, or `None`.
 fn kind_of(term: &Term) -> Option<TableKind> {
     if is_atom(term, "set") {
         Some(TableKind::Set)
@@ -58,7 +58,7 @@ fn kind_of(term: &Term) -> Option<TableKind> {
     }
 }
 
-/// What the table of a run is opened with.
+/// Returns the options of the table of a run, or `None`.
 fn options_of(kind: &Term, parts: &Term, sessions: &Term) -> Option<Options> {
     match (kind_of(kind), byte(parts), byte(sessions)) {
         (Some(kind), Some(parts), Some(sessions)) => Some(Options {
@@ -72,7 +72,7 @@ fn options_of(kind: &Term, parts: &Term, sessions: &Term) -> Option<Options> {
     }
 }
 
-/// The run of a row.
+/// Returns the run that a row gives, or `None` if the row gives none.
 fn run_of(row: &Term) -> Option<Run> {
     let Some([seed, kind, parts, sessions, members, calls]) = fields(row) else {
         return None;
@@ -89,7 +89,7 @@ fn run_of(row: &Term) -> Option<Run> {
     }
 }
 
-/// Writes what is wrong, if anything is.
+/// Writes what is wrong, or that each answer is one that turns allow.
 fn write_judged(judged: &Result<(), Failure>, lines: &mut String) {
     match judged {
         Ok(()) => writeln!(lines, "each answer is one that turns allow").ok(),
@@ -97,7 +97,7 @@ fn write_judged(judged: &Result<(), Failure>, lines: &mut String) {
     };
 }
 
-/// Whether a history that was judged so is what a word says.
+/// Returns whether the judgement of a history is what a word says: `right`, or `wrong` because of the answers.
 fn is_as_said(judged: &Result<(), Failure>, said: &Term) -> bool {
     match judged {
         Ok(()) => is_atom(said, "right"),
@@ -105,7 +105,8 @@ fn is_as_said(judged: &Result<(), Failure>, said: &Term) -> bool {
     }
 }
 
-/// Judges a history, and writes what came of it; whether that is what its row says, none where the row is none.
+/// Judges a history, and writes the result. Returns whether it is what its row says, or `None` if the row gives no
+/// history.
 fn write_history(alloc: Global, row: &Term, lines: &mut String) -> Option<bool> {
     let [word, said, title, kind, sessions, parts] = fields(row)? else {
         return None;
@@ -122,7 +123,7 @@ fn write_history(alloc: Global, row: &Term, lines: &mut String) -> Option<bool> 
     Some(is_as_said(&judged, said))
 }
 
-/// Makes a run, and writes what came of it; false where it isn't right.
+/// Makes a run, judges it and writes the result. Returns whether it is right.
 fn write_run<R: Threads + Wait + Sync>(
     rt: &R,
     alloc: Global,
@@ -150,7 +151,7 @@ fn write_run<R: Threads + Wait + Sync>(
     judged.is_ok()
 }
 
-/// Makes the run or judges the history of a row, and writes what came of it; false where that isn't right.
+/// Makes the run or judges the history of a row, and writes the result. Returns whether it is right.
 fn write_row<R: Threads + Wait + Sync>(
     rt: &R,
     alloc: Global,
@@ -163,7 +164,7 @@ fn write_row<R: Threads + Wait + Sync>(
     }
 }
 
-/// Goes through all rows of standard input.
+/// Handles all rows of standard input. Returns whether all are right.
 fn write_all_rows<R: Threads + Wait + Sync>(
     rt: &R,
     alloc: Global,

@@ -1,21 +1,21 @@
-//! What sessions put in, and the session whose record is replayed.
+//! What sessions inserted, and the session whose record is replayed.
 use crate::event::Event;
 use crate::keys::{OWN, Object, owner};
 use crate::wrong::Wrong;
 use std::alloc::Global;
 use std::ops::Range;
 
-/// At which key each object was put in.
+/// The key at which each object was inserted.
 #[derive(Drop)]
 pub(crate) struct Puts {
-    /// By sessions, and of each session by sequence numbers.
+    /// In the order of the sessions, and for each session of the sequence numbers.
     pub(crate) keys: Vec<Option<u32>>,
-    /// Where those of each session begin.
+    /// The index at which the objects of each session begin.
     pub(crate) starts: Vec<usize>,
 }
 
 impl Puts {
-    /// None of any session.
+    /// Returns a collection of no session.
     pub(crate) fn new(alloc: Global) -> Puts {
         Puts {
             keys: Vec::new(alloc),
@@ -23,7 +23,7 @@ impl Puts {
         }
     }
 
-    /// Those of one more session's events; none for want of memory.
+    /// Adds the objects of one more session, by its events. Returns `None` if memory runs out.
     pub(crate) fn add(&mut self, events: &[Event]) -> Option<()> {
         self.starts.push(self.keys.len()).ok()?;
         for event in events {
@@ -40,7 +40,7 @@ impl Puts {
         Some(())
     }
 
-    /// Which of them an object is, where its session has so many.
+    /// Returns the index of an object, if its session has that many.
     pub(crate) fn place(&self, object: Object) -> Option<usize> {
         let session = usize::from(object.session);
         let start = *self.starts.get(session)?;
@@ -52,7 +52,7 @@ impl Puts {
         if place < end { Some(place) } else { None }
     }
 
-    /// Whether an object was put in at its key.
+    /// Returns whether an object was inserted at its key.
     fn has(&self, object: Object) -> bool {
         match self.place(object) {
             Some(place) => self.keys.get(place).copied() == Some(Some(object.key)),
@@ -66,13 +66,13 @@ impl Puts {
 pub(crate) struct Caller<'a> {
     pub(crate) number: u8,
     pub(crate) puts: &'a Puts,
-    /// The sequence number of its next object.
+    /// The sequence number of the session's next object.
     pub(crate) next: u32,
     fixes: u32,
 }
 
 impl<'a> Caller<'a> {
-    /// One that has made no call.
+    /// Returns a session that has made no call.
     pub(crate) fn new(number: u8, puts: &'a Puts) -> Caller<'a> {
         Caller {
             number,
@@ -82,28 +82,29 @@ impl<'a> Caller<'a> {
         }
     }
 
-    /// The keys of its own.
+    /// Returns the session's own keys.
     pub(crate) fn keys(&self) -> Range<u32> {
         let first = u32::from(self.number).saturating_mul(OWN);
         first..first.saturating_add(OWN)
     }
 
-    /// Whether it alone writes at a key.
+    /// Returns whether the session alone writes at a key.
     pub(crate) fn owns(&self, key: u32) -> bool {
         owner(key) == Some(self.number)
     }
 
-    /// It makes an object.
+    /// Records that the session makes an object, which sets the next sequence number.
     pub(crate) fn makes(&mut self, object: Object) {
         self.next = object.sequence.saturating_add(1);
     }
 
-    /// Whether an object was put in, by the session itself before now.
+    /// Returns whether an object can be met: it was inserted at its key and, if it is the session's own, before now.
     pub(crate) fn may_meet(&self, object: Object) -> bool {
         self.puts.has(object) && (object.session != self.number || object.sequence < self.next)
     }
 
-    /// It fixes the table, or a release of a fix was granted or refused; any other event is none of such a table.
+    /// Handles a fix, or a release of a fix that was accepted or rejected. Any other event does not belong to such a
+    /// table.
     pub(crate) fn goes_on(&mut self, event: Event) -> Result<(), Wrong> {
         match event {
             Event::Fixed => {
@@ -115,7 +116,7 @@ impl<'a> Caller<'a> {
         }
     }
 
-    /// A release of a fix was granted or refused.
+    /// Handles a release of a fix, which is accepted exactly if the session has a fix.
     fn unfixes(&mut self, done: bool) -> Result<(), Wrong> {
         if (0 < self.fixes) != done {
             return Err(Wrong::Fixes(self.fixes));

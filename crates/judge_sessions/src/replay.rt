@@ -1,4 +1,5 @@
-//! What a session of a set was answered, beside a replay of its own calls and what it could know of the others'.
+//! Compares the answers to a session of a set with a replay of its own calls and with what it could know of the others'
+//! calls.
 use crate::event::Event;
 use crate::keys::{COUNTED, KEYS, OWN, Object, first_at};
 use crate::puts::{Caller, Puts};
@@ -17,35 +18,35 @@ pub(crate) enum LastWrite {
 /// What a session knows of a key.
 #[derive(Clone, Copy)]
 struct Known {
-    /// The object that was there when it last looked or wrote.
+    /// The object that was there when the session last looked or wrote.
     last: Option<Object>,
-    /// Its own last write there.
+    /// The session's own last write there.
     write: LastWrite,
-    /// The walk that is under way has met it.
+    /// The current walk has met the key.
     is_met: bool,
 }
 
-/// The least sequence number of an object of a session that can still be met at a key.
+/// The least sequence number of an object of one session that can still be met at a key.
 #[derive(Clone, Copy)]
 struct Least {
     now: u32,
-    /// When the walk under way began: an answer of a later piece may have been found before an earlier one was given
-    /// out.
+    /// The value when the current walk began: an answer of a later piece may have been found before an earlier one was
+    /// given out.
     begun: u32,
 }
 
-/// A replay of a session's events.
+/// A replay of the events of a session of a set.
 #[derive(Drop)]
 pub(crate) struct Replay<'a> {
     session: Caller<'a>,
-    /// By keys.
+    /// What is known of each key, in the order of the keys.
     known: Vec<Known>,
-    /// By sessions and keys.
+    /// The least sequence numbers, in the order of the sessions and, for each, of the keys.
     least: Vec<Least>,
 }
 
 impl<'a> Replay<'a> {
-    /// One without events, of a session among those who made the objects; none for want of memory.
+    /// Returns a replay without events, of a session among those that made the objects, or `None` if memory runs out.
     pub(crate) fn new(alloc: Global, number: u8, puts: &'a Puts) -> Option<Replay<'a>> {
         let keys = KEYS as usize;
         let unknown = Known {
@@ -68,7 +69,7 @@ impl<'a> Replay<'a> {
         })
     }
 
-    /// The object that was at a key when the session last looked or wrote.
+    /// Returns the object that was at a key when the session last looked or wrote.
     fn last(&self, key: u32) -> Option<Object> {
         match self.known.get(key as usize) {
             Some(known) => known.last,
@@ -76,7 +77,7 @@ impl<'a> Replay<'a> {
         }
     }
 
-    /// The session's last write at a key.
+    /// Returns the session's last write at a key.
     pub(crate) fn last_write(&self, key: u32) -> LastWrite {
         match self.known.get(key as usize) {
             Some(known) => known.write,
@@ -84,14 +85,14 @@ impl<'a> Replay<'a> {
         }
     }
 
-    /// The session writes at a key.
+    /// Records a write of the session at a key.
     fn writes(&mut self, key: u32, write: LastWrite) {
         if let Some(known) = self.known.get_mut(key as usize) {
             known.write = write;
         }
     }
 
-    /// The least sequence numbers of objects of a session at a key.
+    /// Returns the least sequence numbers of objects of a session at a key.
     fn least(&self, session: u8, key: u32) -> Least {
         match self.least.get(place(session, key)) {
             Some(least) => *least,
@@ -99,14 +100,15 @@ impl<'a> Replay<'a> {
         }
     }
 
-    /// No object with a lower sequence number can be met there.
+    /// Records that no object of a session with a lower sequence number can be met at a key.
     fn raise(&mut self, session: u8, key: u32, sequence: u32) {
         if let Some(least) = self.least.get_mut(place(session, key)) {
             least.now = sequence.max(least.now);
         }
     }
 
-    /// The object that is at a key now: another that was there, and the session's own older ones, never come back.
+    /// Records the object that is at a key now. Another one that was there, and the session's own older ones, can't
+    /// come back.
     fn is_there(&mut self, key: u32, now: Option<Object>) -> Result<(), Wrong> {
         let number = self.session.number;
         let next = self.session.next;
@@ -130,7 +132,7 @@ impl<'a> Replay<'a> {
         Ok(())
     }
 
-    /// The session looks at a key, and finds an object or none.
+    /// Handles that the session looks at a key, and finds an object or none.
     fn looks(&mut self, key: u32, now: Option<Object>) -> Result<(), Wrong> {
         if self.session.owns(key) && self.last(key) != now {
             return Err(Wrong::NotItsOwn(key));
@@ -146,20 +148,20 @@ impl<'a> Replay<'a> {
         self.is_there(key, now)
     }
 
-    /// The session puts an object in.
+    /// Handles that the session inserts an object.
     fn puts(&mut self, object: Object) -> Result<(), Wrong> {
         self.session.makes(object);
         self.writes(object.key, LastWrite::Put(object.sequence));
         self.is_there(object.key, Some(object))
     }
 
-    /// The session leaves a key without objects.
+    /// Handles that the session leaves a key without objects.
     fn removes(&mut self, key: u32) -> Result<(), Wrong> {
         self.writes(key, LastWrite::Removal);
         self.is_there(key, None)
     }
 
-    /// The session deletes an object of its own, where it is there.
+    /// Handles that the session deletes an object of its own, if it is there.
     fn removes_object(&mut self, object: Object) -> Result<(), Wrong> {
         let key = object.key;
         if !self.session.may_meet(object) {
@@ -175,7 +177,7 @@ impl<'a> Replay<'a> {
         Ok(())
     }
 
-    /// Whether the key has an object, as the session was told.
+    /// Handles the answer whether a key has an object.
     fn is_told(&mut self, key: u32, there: bool) -> Result<(), Wrong> {
         if self.session.owns(key) && self.last(key).is_some() != there {
             return Err(Wrong::NotItsOwn(key));
@@ -186,7 +188,7 @@ impl<'a> Replay<'a> {
         self.is_there(key, None)
     }
 
-    /// An object was to be put in where its key had none.
+    /// Handles `insert_new` of an object, given whether it was inserted.
     fn puts_new(&mut self, object: Object, fresh: bool) -> Result<(), Wrong> {
         let key = object.key;
         if self.session.owns(key) && self.last(key).is_none() != fresh {
@@ -199,7 +201,7 @@ impl<'a> Replay<'a> {
         Ok(())
     }
 
-    /// A walk meets a key.
+    /// Handles a key that a walk meets, which it must not have met before.
     fn meets(&mut self, key: u32) -> Result<(), Wrong> {
         let Some(known) = self.known.get_mut(key as usize) else {
             return Err(Wrong::NoKey(key));
@@ -211,7 +213,7 @@ impl<'a> Replay<'a> {
         Ok(())
     }
 
-    /// A walk begins: it has met no key.
+    /// Begins a walk, which has met no key.
     fn begins(&mut self) {
         for known in self.known.iter_mut() {
             known.is_met = false;
@@ -221,7 +223,7 @@ impl<'a> Replay<'a> {
         }
     }
 
-    /// A walk meets a key and answers its object, which was there at some moment since it began.
+    /// Handles an object that a walk gave with its key. It was there at some moment since the walk began.
     fn walks_by(&mut self, object: Object) -> Result<(), Wrong> {
         let key = object.key;
         self.meets(key)?;
@@ -238,7 +240,7 @@ impl<'a> Replay<'a> {
         Ok(())
     }
 
-    /// A walk ends: of the session's own keys it has met those that have objects.
+    /// Handles the end of a walk. It has met exactly those of the session's own keys that have objects.
     fn ends(&self) -> Result<(), Wrong> {
         for key in self.session.keys() {
             match self.known.get(key as usize) {
@@ -249,7 +251,8 @@ impl<'a> Replay<'a> {
         Ok(())
     }
 
-    /// How many of the session's own keys have objects that pass a test.
+    /// Returns how many of the session's own keys have an object that passes a test of parity, or any object for
+    /// `None`.
     fn counts(&self, parity: Option<u32>) -> u64 {
         let mut count: u64 = 0;
         for key in self.session.keys() {
@@ -260,15 +263,15 @@ impl<'a> Replay<'a> {
         count
     }
 
-    /// Whether the table may have so many objects: at the session's own keys as it left them, at each other key one at
-    /// most.
+    /// Returns whether the table may have this many objects: at the session's own keys as many as it left, at each
+    /// other key at most one.
     fn may_be_all(&self, count: u64) -> bool {
         let own = self.counts(None);
         let others = u64::from(KEYS - OWN);
         own <= count && count <= own.saturating_add(others)
     }
 
-    /// The session deletes its own objects of a parity, and was told how many there were.
+    /// Deletes the session's own objects of a parity. `count` was reported as their number.
     fn removes_all(&mut self, parity: u32, count: u64) -> Result<(), Wrong> {
         if self.counts(Some(parity)) != count {
             return Err(Wrong::Miscounted(count));
@@ -283,7 +286,7 @@ impl<'a> Replay<'a> {
         Ok(())
     }
 
-    /// The session deleted so many objects at the keys whose objects are counted, one at each at most.
+    /// Handles that the session deleted `count` objects at the keys whose objects are counted, at most one at each.
     fn clears(&mut self, count: u64) -> Result<(), Wrong> {
         if u64::from(KEYS - COUNTED) < count {
             return Err(Wrong::Miscounted(count));
@@ -294,7 +297,7 @@ impl<'a> Replay<'a> {
         Ok(())
     }
 
-    /// Goes on by an event of a walk, or of a query.
+    /// Handles an event of a walk or of a query.
     fn walks_on(&mut self, event: Event) -> Result<(), Wrong> {
         match event {
             Event::Begun => {
@@ -312,7 +315,7 @@ impl<'a> Replay<'a> {
         }
     }
 
-    /// Goes on by an event.
+    /// Handles an event.
     fn goes_on(&mut self, event: Event) -> Result<(), Wrong> {
         match event {
             Event::Put(object) => self.puts(object),
@@ -329,7 +332,7 @@ impl<'a> Replay<'a> {
         }
     }
 
-    /// Goes through all events of the session, and looks at what is left at each key.
+    /// Handles all events of the session, and then what is left at each key.
     pub(crate) fn goes_through(&mut self, events: &[Event], left: &[Object]) -> Result<(), Wrong> {
         for event in events {
             self.goes_on(*event)?;
@@ -341,7 +344,7 @@ impl<'a> Replay<'a> {
     }
 }
 
-/// Where what is known of a session's objects at a key is kept.
+/// Returns the index of what is known of a session's objects at a key.
 fn place(session: u8, key: u32) -> usize {
     usize::from(session)
         .saturating_mul(KEYS as usize)

@@ -19,8 +19,8 @@ use std::thread::{self, Threads, join};
 use tables::{At, Options, Session, Table, Turns, part_of_key};
 use term_core::Term;
 
-/// A run: what the table is opened with, how many of its sessions are members, by which another makes its selections,
-/// and the calls of each session that is none.
+/// A run: the options of the table, the number of its members, the seed, and the number of calls of each session.
+/// Members are sessions with which another session makes its selections; they make no calls of their own.
 #[derive(Clone, Copy)]
 pub(crate) struct Run {
     pub(crate) options: Options,
@@ -29,7 +29,7 @@ pub(crate) struct Run {
     pub(crate) calls: u32,
 }
 
-/// A session makes its calls, and selections by members, if there are any.
+/// Has a session make its calls, with selections by members if there are any. Returns its record.
 fn played<R: Threads + Wait + Sync, P: Part<Global> + Drop, M: Turns<Global> + Send>(
     rt: &R,
     alloc: Global,
@@ -50,7 +50,7 @@ fn played<R: Threads + Wait + Sync, P: Part<Global> + Drop, M: Turns<Global> + S
     worker
 }
 
-/// A session without members, of whatever parts these would be, makes its calls.
+/// Has a session without members, for any type of parts of members, make its calls. Returns its record.
 fn played_alone<R: Threads + Wait + Sync, P: Part<Global> + Drop, Q: Part<Global> + Drop + Send>(
     rt: &R,
     alloc: Global,
@@ -67,7 +67,7 @@ fn played_alone<R: Threads + Wait + Sync, P: Part<Global> + Drop, Q: Part<Global
     worker
 }
 
-/// A session without members makes its calls and leaves the table.
+/// Has a session without members make its calls and leave the table. Returns its record.
 fn played_and_left<R: Threads + Wait + Sync, P: Part<Global> + Drop>(
     rt: &R,
     alloc: Global,
@@ -83,7 +83,7 @@ fn played_and_left<R: Threads + Wait + Sync, P: Part<Global> + Drop>(
     worker
 }
 
-/// Whether a part among so many is that of a key.
+/// Returns whether a part, of this number of parts, is that of a key.
 fn is_part_of(key: u32, part: u8, parts: u8) -> bool
     requires { 0 < parts }
 {
@@ -93,7 +93,7 @@ fn is_part_of(key: u32, part: u8, parts: u8) -> bool
     is_part
 }
 
-/// Puts an object behind others, where it stands in its key's part.
+/// Appends an object that is left in a part, which must be its key's part.
 fn put_left(object: Object, part: u8, parts: u8, left: &mut Vec<Object>) -> Result<(), Wrong> {
     if parts == 0 {
         return Err(Wrong::Misplaced(object.key));
@@ -107,7 +107,7 @@ fn put_left(object: Object, part: u8, parts: u8, left: &mut Vec<Object>) -> Resu
     check(left.push(object).is_ok(), Wrong::NoMemory)
 }
 
-/// Puts the objects of a part, which is one of so many, behind others.
+/// Appends the objects that are left in a part, which is one of `parts`.
 pub(crate) fn put_all_left(
     objects: &[Term],
     part: u8,
@@ -123,7 +123,7 @@ pub(crate) fn put_all_left(
     Ok(())
 }
 
-/// Puts what is left in the last part that was not handed out yet behind other objects.
+/// Takes the last part out of a closed table that is still there, and appends the objects that are left in it.
 fn put_next_left<P: Part<Global> + Drop>(
     alloc: Global,
     closed: &mut Closed<P>,
@@ -147,7 +147,7 @@ fn put_next_left<P: Part<Global> + Drop>(
     }
 }
 
-/// Puts what is left in a table that was given up behind other objects.
+/// Appends the objects that are left in a closed table.
 fn put_left_in<P: Part<Global> + Drop>(
     alloc: Global,
     closed: &mut Closed<P>,
@@ -160,7 +160,7 @@ fn put_left_in<P: Part<Global> + Drop>(
     Ok(())
 }
 
-/// Judges what sessions recorded, and what is left in their table, which was given up.
+/// Judges what sessions recorded, and what is left in their closed table.
 fn judged_left<P: Part<Global> + Drop>(
     alloc: Global,
     closed: &mut Closed<P>,
@@ -176,7 +176,7 @@ fn judged_left<P: Part<Global> + Drop>(
     judged
 }
 
-/// The records of all sessions, by their numbers; none where there are none, or for want of memory.
+/// Returns the records of all sessions, in the order of their numbers, or `None` if there are none or memory runs out.
 fn all_workers(others: Option<Vec<Worker>>, last: Worker) -> Option<Vec<Worker>> {
     match others {
         Some(others) => {
@@ -195,7 +195,7 @@ fn all_workers(others: Option<Vec<Worker>>, last: Worker) -> Option<Vec<Worker>>
     }
 }
 
-/// Judges a table that was given up beside what its sessions recorded.
+/// Judges a closed table, and what its sessions recorded.
 fn judged_closed<P: Part<Global> + Drop>(
     alloc: Global,
     closed: Closed<P>,
@@ -214,7 +214,7 @@ fn judged_closed<P: Part<Global> + Drop>(
     judged
 }
 
-/// All but the last session make their calls and leave, each on a thread of its own.
+/// Has all but the last session make their calls and leave, each on a thread of its own. Returns their records.
 fn others_played<R: Threads + Wait + Sync, P: Part<Global> + Drop + Send>(
     rt: &R,
     alloc: Global,
@@ -234,7 +234,8 @@ fn others_played<R: Threads + Wait + Sync, P: Part<Global> + Drop + Send>(
     .ok()
 }
 
-/// A session makes its calls, by its members where these serve; none where it doesn't come to their end.
+/// Has a session make its calls, using its members for selections. Returns its record, or `None` if it does not
+/// complete its calls.
 fn played_by<R: Threads + Wait + Sync, P: Part<Global> + Drop + Send>(
     rt: &R,
     alloc: Global,
@@ -258,7 +259,7 @@ fn played_by<R: Threads + Wait + Sync, P: Part<Global> + Drop + Send>(
     }
 }
 
-/// The last session makes its calls, by its members where these serve, and comes back.
+/// Has the last session make its calls, using its members for selections. Returns the session and its record.
 fn last_played<R: Threads + Wait + Sync, P: Part<Global> + Drop + Send>(
     rt: &R,
     alloc: Global,
@@ -284,7 +285,8 @@ fn last_played<R: Threads + Wait + Sync, P: Part<Global> + Drop + Send>(
     }
 }
 
-/// All but the last session make their calls and leave, and beside them the last makes its own, with these members.
+/// Has all but the last session make their calls and leave, while the last one makes its own, with these members.
+/// Returns all records and the last session.
 fn all_played<R: Threads + Wait + Sync, P: Part<Global> + Drop + Send>(
     rt: &R,
     alloc: Global,
@@ -312,7 +314,7 @@ fn all_played<R: Threads + Wait + Sync, P: Part<Global> + Drop + Send>(
     )
 }
 
-/// Puts a session behind members.
+/// Appends a session to the members.
 fn put_member<P: Part<Global> + Drop>(
     _table: &Table<P>,
     session: Session<P>,
@@ -325,7 +327,7 @@ fn put_member<P: Part<Global> + Drop>(
     members.push(session).ok()
 }
 
-/// Takes a session from the end of others, and puts it behind members.
+/// Takes the last one of the sessions, and appends it to the members.
 fn move_one<P: Part<Global> + Drop>(
     table: &Table<P>,
     sessions: &mut Vec<Session<P>>,
@@ -340,7 +342,7 @@ fn move_one<P: Part<Global> + Drop>(
     put_member(table, member, members)
 }
 
-/// Takes so many members from the end of a table's sessions, and puts them behind others.
+/// Takes the last `count` of a table's sessions, and appends them to the members.
 fn move_members<P: Part<Global> + Drop>(
     table: &Table<P>,
     sessions: &mut Vec<Session<P>>,
@@ -358,7 +360,7 @@ fn move_members<P: Part<Global> + Drop>(
     Some(())
 }
 
-/// So many members from the end of a table's sessions.
+/// Takes the last `count` of a table's sessions, and returns them as members.
 fn members_from<P: Part<Global> + Drop>(
     alloc: Global,
     table: &Table<P>,
@@ -379,7 +381,7 @@ fn members_from<P: Part<Global> + Drop>(
     }
 }
 
-/// All sessions make their calls, and what is left is judged beside what they recorded.
+/// Opens a table, has all sessions make their calls, and judges what they recorded and what is left.
 pub(crate) fn judged<R: Threads + Wait + Sync, P: Part<Global> + Drop + Send>(
     rt: &R,
     alloc: Global,

@@ -15,12 +15,12 @@ use tables::{Turns, fix, unfix};
 use term_core::Term;
 use walks::{Continuation, Query, Step, first, next, select_limit, select_more};
 
-/// The most pieces of a walk, and the most keys of a tour.
+/// The maximal number of pieces of a walk, and of keys of a tour.
 const MOST: u32 = 1_000_000;
-/// The most of a walk that is abandoned.
+/// The maximal number of pieces or keys of a walk that is abandoned.
 const FEW: u32 = 8;
 
-/// The query of a specification.
+/// Returns the query of a specification, or `None`.
 fn query(alloc: Global, specification: &str) -> Option<Query> {
     let term = term_of(alloc, specification.as_bytes())?;
     let read = read_spec(alloc, &term).ok();
@@ -40,7 +40,8 @@ pub(crate) fn record_piece(worker: &mut Worker, answers: &[Term]) -> Option<()> 
     Some(())
 }
 
-/// Records the answers of a walk that was made at once: each was found when the session had made no other call since.
+/// Records the answers of a walk that was made at once. For a set, each was found when the session had made no other
+/// call since.
 fn record_all(worker: &mut Worker, answers: &[Term]) -> Option<()> {
     if worker.holds_many {
         return record_piece(worker, answers);
@@ -60,7 +61,7 @@ pub(crate) fn record_whole(worker: &mut Worker, answers: &[Term]) -> Option<()> 
     worker.record(Event::Ended)
 }
 
-/// How many pieces or keys a walk goes on for: of four walks one is abandoned.
+/// Returns how many pieces or keys a walk goes on for: one of four walks is abandoned.
 fn walk_length(worker: &mut Worker) -> u32 {
     if worker.below(4) == 0 {
         worker.below(FEW)
@@ -69,8 +70,8 @@ fn walk_length(worker: &mut Worker) -> u32 {
     }
 }
 
-/// Records a piece, writes where others write, too, and goes on with the walk.
-fn step_behind<T: Turns<Global>>(
+/// Records a piece, makes a call at a key at which others write, too, and goes on with the walk.
+fn step_after<T: Turns<Global>>(
     alloc: Global,
     turns: &mut T,
     worker: &mut Worker,
@@ -94,8 +95,8 @@ fn step_behind<T: Turns<Global>>(
     select_more(alloc, turns, walk).ok()
 }
 
-/// All objects, in pieces; between two pieces the session writes where others write, too. A walk that is abandoned drops
-/// its continuation, and its end isn't recorded.
+/// Walks over all objects, in pieces; between two pieces the session makes a call at a key at which others write, too.
+/// A walk that is abandoned drops its continuation, and no end is recorded.
 fn pieces<T: Turns<Global>>(alloc: Global, turns: &mut T, worker: &mut Worker) -> Option<()>
     requires { T.is_ready turns.old }
     ensures ready { T.is_ready turns.new }
@@ -109,7 +110,7 @@ fn pieces<T: Turns<Global>>(alloc: Global, turns: &mut T, worker: &mut Worker) -
     for _piece in 0..most {
         match step? {
             Step::Piece(answers, walk) => {
-                step = step_behind(alloc, turns, worker, answers, walk);
+                step = step_after(alloc, turns, worker, answers, walk);
             }
             Step::End(query) => {
                 drop(query);
@@ -124,7 +125,7 @@ fn pieces<T: Turns<Global>>(alloc: Global, turns: &mut T, worker: &mut Worker) -
     }
 }
 
-/// The number that a key is, if there is a key.
+/// Returns the number that a key is, if there is a key. Returns `None` if the key is no number.
 fn number_of(key: Option<Term>) -> Option<Option<u32>> {
     let number = match &key {
         Some(key) => match number(key) {
@@ -137,8 +138,8 @@ fn number_of(key: Option<Term>) -> Option<Option<u32>> {
     number
 }
 
-/// The key behind another, or the first.
-fn key_behind<T: Turns<Global>>(turns: &mut T, last: Option<u32>) -> Option<Option<u32>>
+/// Returns the key after another, or the first one for `None`.
+fn following_key<T: Turns<Global>>(turns: &mut T, last: Option<u32>) -> Option<Option<u32>>
     requires { T.is_ready turns.old }
     ensures ready { T.is_ready turns.new }
     ensures same { T.home turns.new ≡ T.home turns.old }
@@ -152,7 +153,8 @@ fn key_behind<T: Turns<Global>>(turns: &mut T, last: Option<u32>) -> Option<Opti
     number_of(found?)
 }
 
-/// All keys, one behind the other, by `first` and `next`, or so many of them; whether there are no more.
+/// Visits all keys, one after the other, by `first` and `next`, or at most `most` of them. Returns whether there are no
+/// more.
 fn tour<T: Turns<Global>>(turns: &mut T, worker: &mut Worker, most: u32) -> Option<bool>
     requires { T.is_ready turns.old }
     ensures ready { T.is_ready turns.new }
@@ -160,7 +162,7 @@ fn tour<T: Turns<Global>>(turns: &mut T, worker: &mut Worker, most: u32) -> Opti
 {
     let mut last = None;
     for _key in 0..most {
-        last = key_behind(turns, last)?;
+        last = following_key(turns, last)?;
         match last {
             Some(key) => worker.record(Event::Met(key))?,
             None => return Some(true),
@@ -169,7 +171,7 @@ fn tour<T: Turns<Global>>(turns: &mut T, worker: &mut Worker, most: u32) -> Opti
     Some(false)
 }
 
-/// A tour through the table while it is fixed. One that is abandoned leaves it fixed.
+/// Makes a tour through the table while it is fixed. A tour that is abandoned leaves it fixed.
 fn fixed_tour<T: Turns<Global>>(turns: &mut T, worker: &mut Worker) -> Option<()>
     requires { T.is_ready turns.old }
     ensures ready { T.is_ready turns.new }
@@ -193,13 +195,13 @@ fn fixed_tour<T: Turns<Global>>(turns: &mut T, worker: &mut Worker) -> Option<()
 enum Asking {
     /// All objects at once.
     Whole,
-    /// How many objects the session has at its own keys.
+    /// The number of objects that the session has at its own keys.
     Count,
     /// Deletes the session's objects of even or of odd sequence numbers at its own keys.
     Remove(u32),
     /// The objects at one of the session's keys, by a specification that names it.
     Named(u32),
-    /// How many objects the table has.
+    /// The number of objects of the table.
     CountAll,
     /// Deletes the objects at the keys whose objects are counted.
     Clear,
@@ -228,7 +230,7 @@ impl Asking {
         .ok()
     }
 
-    /// The query of a session.
+    /// Returns the query of a session, or `None`.
     fn query(self, alloc: Global, number: u8) -> Option<Query> {
         let mut text = String::new(alloc);
         let asked = match self.write(number, &mut text) {
@@ -239,7 +241,7 @@ impl Asking {
         asked
     }
 
-    /// What a session records of a number that its query answers.
+    /// Returns the event that records the number that a query returned.
     fn event(self, count: u64) -> Event {
         match self {
             Asking::Count => Event::Counted(count),
@@ -250,7 +252,7 @@ impl Asking {
     }
 }
 
-/// Asks a query, by members where there are any, and records what it answers.
+/// Makes a query, by members if there are any, and records the result.
 fn ask_query<R: Threads + Wait + Sync, T: Turns<Global>, M: Turns<Global> + Send>(
     rt: &R,
     alloc: Global,
@@ -290,7 +292,7 @@ fn ask_query<R: Threads + Wait + Sync, T: Turns<Global>, M: Turns<Global> + Send
     }
 }
 
-/// Makes a query, and asks it.
+/// Makes a session's query, by members if there are any, and records the result.
 fn ask<R: Threads + Wait + Sync, T: Turns<Global>, M: Turns<Global> + Send>(
     rt: &R,
     alloc: Global,
@@ -311,7 +313,7 @@ fn ask<R: Threads + Wait + Sync, T: Turns<Global>, M: Turns<Global> + Send>(
     recorded
 }
 
-/// A walk, or a change of the session's fixes.
+/// Makes a random walk or query, or changes the session's fixes.
 pub(crate) fn walk<R: Threads + Wait + Sync, T: Turns<Global>, M: Turns<Global> + Send>(
     rt: &R,
     alloc: Global,

@@ -1,4 +1,4 @@
-//! A session that makes random calls and records what it is answered.
+//! A session that makes random calls and records the answers.
 ghost use Rattle.std.specs.Prelude.{◌≡◌};
 ghost use Rattle.kit_members.specs.Members.{AreMembers};
 
@@ -14,14 +14,14 @@ use std::thread::Threads;
 use tables::{Turns, delete, delete_object, insert, insert_new, lookup, member, take};
 use term_core::Term;
 
-/// How many calls come to one walk.
+/// On average one of this many calls is a walk.
 const CALLS_OF_A_WALK: u32 = 64;
 
 /// A call at one key.
 #[derive(Clone, Copy)]
 enum Call {
     Put,
-    /// An object is put in that was put in before, at one key or another.
+    /// An object is inserted that was inserted before, at the same key or at another.
     PutAgain,
     PutNew,
     Find,
@@ -31,7 +31,7 @@ enum Call {
     Take,
 }
 
-/// The calls at keys that are written in every way, as often as they are made.
+/// The calls at keys at which sessions write in every way, each as many times as its share.
 const CALLS: [Call; 16] = [
     Call::Put,
     Call::Put,
@@ -51,7 +51,7 @@ const CALLS: [Call; 16] = [
     Call::Take,
 ];
 
-/// What a session needs for its calls, and what it recorded.
+/// What a session needs for its calls, and its record.
 #[derive(Drop)]
 pub(crate) struct Worker {
     pub(crate) number: u8,
@@ -60,13 +60,13 @@ pub(crate) struct Worker {
     sequence: u32,
     /// Whether the table holds several objects of a key.
     pub(crate) holds_many: bool,
-    /// Whether all calls were answered, and recorded.
+    /// Whether all calls were answered and recorded.
     pub(crate) is_whole: bool,
     pub(crate) events: Vec<Event>,
 }
 
 impl Worker {
-    /// One that has made no call. Its calls follow from the seed and its number.
+    /// Returns a session that has made no call. Its calls depend only on the seed, its number and the answers.
     pub(crate) fn new(alloc: Global, seed: u64, number: u8, holds_many: bool) -> Worker {
         Worker {
             number,
@@ -78,7 +78,7 @@ impl Worker {
         }
     }
 
-    /// A random number below another.
+    /// Returns a random number below `bound`, or 0 if `bound` is 0.
     pub(crate) fn below(&mut self, bound: u32) -> u32 {
         self.random.random_range(0..bound.max(1))
     }
@@ -121,7 +121,8 @@ impl Worker {
         self.record(Event::Taken(key, object))
     }
 
-    /// How many calls the session makes of so many: of four that are alone one leaves early, behind half of them.
+    /// Returns how many of `calls` calls the session makes. One of four sessions without members leaves early, after at
+    /// least half of them.
     fn share(&mut self, calls: u32, is_alone: bool) -> u32 {
         if is_alone && self.below(4) == 0 {
             self.below(calls).max(calls / 2)
@@ -130,7 +131,7 @@ impl Worker {
         }
     }
 
-    /// A new object at a key.
+    /// Returns a new object at a key.
     fn object(&mut self, key: u32) -> Object {
         let sequence = self.sequence;
         self.sequence = sequence.saturating_add(1);
@@ -141,7 +142,8 @@ impl Worker {
         }
     }
 
-    /// An object of the session's that may be there.
+    /// Returns an object of the session's own at a key that may have been inserted: one of its last 200 sequence
+    /// numbers.
     fn earlier(&mut self, key: u32) -> Object {
         let back = self.below(200);
         Object {
@@ -151,7 +153,7 @@ impl Worker {
         }
     }
 
-    /// One of the session's own keys.
+    /// Returns one of the session's own keys.
     pub(crate) fn own_key(&mut self) -> u32 {
         let place = self.below(OWN);
         u32::from(self.number)
@@ -159,7 +161,7 @@ impl Worker {
             .saturating_add(place)
     }
 
-    /// A call of those that are made at keys which are written in every way.
+    /// Returns a call for keys at which sessions write in every way.
     fn any_call(&mut self) -> Call {
         let choice = self.below(16) as usize;
         match CALLS.get(choice) {
@@ -168,7 +170,7 @@ impl Worker {
         }
     }
 
-    /// A call at a key at which other sessions write, too.
+    /// Returns a call and a key at which other sessions write, too.
     fn shared_call(&mut self) -> (Call, u32) {
         match self.below(8) {
             0 => (
@@ -187,7 +189,7 @@ impl Worker {
         }
     }
 
-    /// A call at a key, of the session's own or of all.
+    /// Returns a call and a key, of the session's own or of all.
     fn any_key_call(&mut self) -> (Call, u32) {
         if self.below(2) != 0 {
             return self.shared_call();
@@ -200,7 +202,7 @@ impl Worker {
         }
     }
 
-    /// Makes a call at a key.
+    /// Makes a call at a key, and records it.
     fn call<T: Turns<Global>>(
         &mut self,
         alloc: Global,
@@ -229,7 +231,7 @@ impl Worker {
         }
     }
 
-    /// Puts an object in, and records it so.
+    /// Inserts an object, and records this event.
     fn put<T: Turns<Global>>(
         &mut self,
         alloc: Global,
@@ -281,7 +283,7 @@ impl Worker {
         }
     }
 
-    /// Makes a call that names a key alone.
+    /// Makes a call that names a key alone, and records the answer.
     fn call_by_key<T: Turns<Global>>(&mut self, turns: &mut T, call: Call, key: u32) -> Option<()>
         requires { T.is_ready turns.old }
         ensures ready { T.is_ready turns.new }
@@ -293,7 +295,7 @@ impl Worker {
         recorded
     }
 
-    /// Makes a call that names a key alone, which is this term, and records what it answers.
+    /// Makes a call that names a key alone, given as this term, and records the answer.
     fn call_by_term<T: Turns<Global>>(
         &mut self,
         turns: &mut T,
@@ -343,8 +345,7 @@ impl Worker {
         self.call(alloc, turns, call, key)
     }
 
-    /// Makes so many random calls, or fewer where it has no members, and leaves early; walks are made by members, where
-    /// there are any.
+    /// Makes `calls` random calls; without members it may leave early. Walks are made by members if there are any.
     pub(crate) fn run<R: Threads + Wait + Sync, T: Turns<Global>, M: Turns<Global> + Send>(
         &mut self,
         rt: &R,

@@ -1,11 +1,12 @@
-//! Rows of the operations of a part and rows of scripts of `ets_tool`, read from standard input: each is tried on each
-//! part that serves its kind, and what comes of it is compared with what the row wants. Each row that fails is printed,
-//! with how many rows there were of each kind.
+//! Rows of the operations of a part and rows of scripts of `ets_tool`, read from standard input. Each is tried on each
+//! part that supports its kind, and the result is compared with the expected one. Each row that fails is printed, with
+//! the number of rows of each kind.
 //!
-//! `stdin` has the rows, those of parts first, and at the head of each of the two the form of its kinds. The judge is
-//! proved once, and rows cost nothing but their run.
+//! `stdin` has the rows, those of parts first. Before each of the two groups it says how its kinds are written. The
+//! judge is proved once; to run further rows costs no proof.
 //!
-//! - `plays`: rows of parts, with memory and with each request refused in turn: `PartCalls` says which part plays a row.
+//! - `plays`: rows of parts, with memory and with each allocation failing in turn: `PartCalls` says which part runs a
+//!   row.
 //! - `scripts`: rows of scripts.
 //!
 //! The steps of a row of parts, turns, operations and replies are in `kit_parts`.

@@ -1,5 +1,5 @@
-//! Rows that are played, once with memory and again with each request for memory refused in turn, alone and with all
-//! behind it.
+//! Rows that are run once with memory and again with each allocation failing in turn, alone and together with all later
+//! ones.
 use kit_alloc::Failing;
 use kit_parts::{
     Options, Setting, Wants, byte, kind_of, made, open_fault_text, steps_text, watching_code,
@@ -14,10 +14,10 @@ use term_core::Term;
 use term_text::read_terms;
 use verifier::Verified;
 
-/// With memory, and with each request refused in turn.
+/// With memory, and with each allocation failing in turn.
 const FORMS: usize = 2;
 
-/// In how many forms a row is played: those of sets and bags at a plain part, and then at a hashed one.
+/// Returns the number of forms in which a row is run: those of sets and bags at a plain part, and then at a hashed one.
 pub(crate) fn forms(kind: &str) -> usize {
     if at_hashed(kind) == kind {
         FORMS
@@ -26,7 +26,7 @@ pub(crate) fn forms(kind: &str) -> usize {
     }
 }
 
-/// What a row of a kind is called where it is played at a hashed part.
+/// Returns the name of a row's kind for a hashed part.
 fn at_hashed(kind: &str) -> &str {
     match kind {
         "set" => "hashed_set",
@@ -40,16 +40,17 @@ fn at_hashed(kind: &str) -> &str {
     }
 }
 
-/// How a row is played.
+/// How a row is run.
 #[derive(Clone, Copy)]
 struct Form<'w> {
-    /// Whether a request for memory may be refused, and how often it was wanted.
+    /// Whether allocations may fail, and how many calls ran out of memory.
     wants: &'w Wants,
-    /// The part is looked at before each operation and where it refuses.
+    /// The part is compared before each operation and after those that are rejected.
     is_watched: bool,
 }
 
-/// The steps of a row with the replies that came, or the fault where the part isn't made.
+/// Makes a part and the steps of a row. Returns the text of the steps with the replies that came, or of the fault if
+/// the part can't be made.
 fn played_with<'w, A: Allocator + Copy, P: Part<A> + Drop>(
     alloc: Global,
     heap: A,
@@ -73,7 +74,8 @@ fn played_with<'w, A: Allocator + Copy, P: Part<A> + Drop>(
     }
 }
 
-/// The same with what a look at the part asks, where it is looked at.
+/// Makes a part and the steps of a row, with the code for comparing the part if that is needed. Returns the text of the
+/// steps with the replies that came, or of the fault if the part can't be made.
 fn played<A: Allocator + Copy, P: Part<A> + Drop>(
     alloc: Global,
     heap: A,
@@ -91,7 +93,7 @@ fn played<A: Allocator + Copy, P: Part<A> + Drop>(
     }
 }
 
-/// What comes of making a part.
+/// Returns the text of the result of making a part.
 fn made_text<A: Allocator + Copy, P: Part<A> + Drop>(
     alloc: Global,
     heap: A,
@@ -107,7 +109,7 @@ fn made_text<A: Allocator + Copy, P: Part<A> + Drop>(
     }
 }
 
-/// What comes of a row of steps at a part that serves a kind.
+/// Returns the result of a row of steps at a part that supports a kind.
 fn steps_row<A: Allocator + Copy, P: Part<A> + Drop>(
     alloc: Global,
     heap: A,
@@ -127,7 +129,7 @@ fn steps_row<A: Allocator + Copy, P: Part<A> + Drop>(
     played::<A, P>(alloc, heap, options, form, elements(steps)?)
 }
 
-/// What comes of a row of options for a part.
+/// Returns the result of a row of options for a part.
 fn options_row<A: Allocator + Copy, P: Part<A> + Drop>(
     alloc: Global,
     heap: A,
@@ -146,7 +148,7 @@ fn options_row<A: Allocator + Copy, P: Part<A> + Drop>(
     made_text::<A, P>(alloc, heap, options, wants)
 }
 
-/// The part that plays a row of steps.
+/// The part that runs a row of steps.
 #[derive(Clone, Copy)]
 enum Place {
     /// A plain part of a kind.
@@ -157,7 +159,7 @@ enum Place {
     Ordered,
 }
 
-/// The part that a call of a row of steps names.
+/// Returns the part that the call of a row of steps names.
 fn place_of(call: &str) -> Option<Place> {
     match call {
         "set" => Some(Place::Plain(TableKind::Set)),
@@ -171,7 +173,7 @@ fn place_of(call: &str) -> Option<Place> {
     }
 }
 
-/// The same, and whether the part is looked at.
+/// Returns the part that the call of a row of steps names, and whether the part is compared.
 fn play_of(call: &str) -> Option<(Place, bool)> {
     match call.strip_prefix("watched_") {
         Some(kind) => Some((place_of(kind)?, true)),
@@ -179,7 +181,7 @@ fn play_of(call: &str) -> Option<(Place, bool)> {
     }
 }
 
-/// What comes of a row of steps at a part.
+/// Returns the result of a row of steps at a part.
 fn played_at<A: Allocator + Copy>(
     alloc: Global,
     heap: A,
@@ -196,7 +198,7 @@ fn played_at<A: Allocator + Copy>(
     }
 }
 
-/// What comes of a row by its call, which names the part that plays it.
+/// Returns the result of a row, given its call, which names the part that runs it.
 fn outcome_of_row<A: Allocator + Copy>(
     alloc: Global,
     heap: A,
@@ -216,7 +218,7 @@ fn outcome_of_row<A: Allocator + Copy>(
     }
 }
 
-/// The same of the row that a text says.
+/// Returns the result of the row that a text spells, or `None` if memory runs out while it is read.
 fn outcome_of<A: Allocator + Copy>(
     alloc: Global,
     heap: A,
@@ -232,10 +234,10 @@ fn outcome_of<A: Allocator + Copy>(
     out
 }
 
-/// The most requests for memory that one row makes behind the reading of its text.
+/// The maximal number of allocations of one row after its text has been read.
 const MOST_REQUESTS: u64 = 20_000;
 
-/// How many requests for memory the reading of a row's text makes.
+/// Returns the number of allocations that reading a row's text takes.
 fn requests_to_read(alloc: Global, given: &[u8]) -> Option<u64> {
     let heap = Failing::counting(alloc);
     if was_ok(read_terms(&heap, given)) {
@@ -245,20 +247,20 @@ fn requests_to_read(alloc: Global, given: &[u8]) -> Option<u64> {
     }
 }
 
-/// From how many bytes on a row is long.
+/// The number of bytes from which on a row counts as long.
 const LONG: usize = 4_000;
 
-/// Which requests are refused in a run of a row.
+/// Which allocations fail in a run of a row.
 #[derive(Clone, Copy)]
 enum Refusals {
-    /// One alone.
+    /// One allocation alone.
     Alone,
-    /// Each from one on.
+    /// One allocation and all later ones.
     Onward,
 }
 
 impl Refusals {
-    /// An allocator that refuses the request of this number.
+    /// Returns an allocator of which the allocation with this number fails, as the first.
     fn heap(self, alloc: Global, request: u64) -> Failing<Global> {
         match self {
             Refusals::Alone => Failing::refusing_nth(alloc, request),
@@ -266,8 +268,8 @@ impl Refusals {
         }
     }
 
-    /// How many requests lie between the first refused ones of two runs of a row: onward each third is the first of a
-    /// long one, for time.
+    /// Returns the distance between the first failing allocations of two runs of a row: 3 for long rows with all later
+    /// ones failing, to save time, else 1.
     fn stride(self, given: &[u8]) -> u64 {
         match self {
             Refusals::Alone => 1,
@@ -275,7 +277,8 @@ impl Refusals {
         }
     }
 
-    /// How often memory may be wanted in a row that is played to its end: an operation is asked for again behind one.
+    /// Returns how many calls may run out of memory in a row that runs to its end: 1 if one allocation fails alone,
+    /// since an operation is then tried again.
     fn most_wants(self) -> u64 {
         match self {
             Refusals::Alone => 1,
@@ -283,7 +286,8 @@ impl Refusals {
         }
     }
 
-    /// How often memory may be wanted in a row that ends early: alone, where what an operation is made of can't be read.
+    /// Returns how many calls may run out of memory in a row that ends early: none if one allocation fails alone, since
+    /// the row then ends only if an operation can't be read.
     fn most_wants_at_end(self) -> u64 {
         match self {
             Refusals::Alone => 0,
@@ -292,8 +296,8 @@ impl Refusals {
     }
 }
 
-/// Whether the same comes of a row over an allocator that refuses requests, or memory is wanted where it did, and no
-/// block is left then.
+/// Returns whether a row over a failing allocator has the wanted result, or ran out of memory after an allocation
+/// failed. In each case no block may be left allocated.
 fn is_right(
     alloc: Global,
     refusals: Refusals,
@@ -310,7 +314,8 @@ fn is_right(
     is_right && heap.blocks() == 0
 }
 
-/// Whether it is so whichever request behind the first ones is refused, as far as the stride goes.
+/// Returns whether `is_right` is true with each allocation failing in turn after the first ones, with the distance of
+/// the stride.
 fn is_swept(
     alloc: Global,
     refusals: Refusals,
@@ -333,8 +338,8 @@ fn is_swept(
     false
 }
 
-/// What comes of a row, with memory and with each request refused in turn that isn't made to read it, alone and with all
-/// behind it.
+/// Returns the result of a row, with memory and with each allocation failing in turn after those that read it, alone
+/// and together with all later ones; `another_without_memory` if the results differ.
 fn swept(alloc: Global, call: &str, given: &[u8]) -> Option<Vec<u8>> {
     let out = outcome_of(alloc, alloc, call, given, &Wants::new(false))?;
     let first = requests_to_read(alloc, given)?;
@@ -347,7 +352,7 @@ fn swept(alloc: Global, call: &str, given: &[u8]) -> Option<Vec<u8>> {
     }
 }
 
-/// What comes of a row in one of the forms.
+/// Returns the result of a row in one of the forms.
 pub(crate) fn came(alloc: Global, kind: &str, parts: &[Term], forms: usize) -> Option<Vec<u8>> {
     let given = written(alloc, parts)?;
     let call = if forms < FORMS { kind } else { at_hashed(kind) };

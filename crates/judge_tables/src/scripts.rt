@@ -11,10 +11,10 @@ use term_core::Term;
 use term_text::{read_terms, write_term};
 use tool_script::run_script;
 
-/// With sets and bags in plain parts, and in hashed parts.
+/// The number of forms of a row: sets and bags in plain parts, and in hashed parts.
 pub(crate) const FORMS: usize = 2;
 
-/// The text of commands, each with a dot behind it.
+/// Returns the text of commands, each followed by a dot.
 fn script_of(alloc: Global, commands: &[Term]) -> Option<Vec<u8>> {
     let mut text = Vec::new(alloc);
     for command in commands {
@@ -24,7 +24,7 @@ fn script_of(alloc: Global, commands: &[Term]) -> Option<Vec<u8>> {
     Some(text)
 }
 
-/// What a script is replied, with sets and bags in such parts: the list of the replies.
+/// Runs a script with sets and bags in these parts, and returns the text of the list of its replies.
 fn replies<S: Part<Global> + Drop>(alloc: Global, commands: &[Term]) -> Option<Vec<u8>>
     requires { ServesUnordered S.serves }
 {
@@ -40,7 +40,7 @@ fn replies<S: Part<Global> + Drop>(alloc: Global, commands: &[Term]) -> Option<V
     text
 }
 
-/// What comes of a row of scripts in one of the forms.
+/// Returns the result of a row of scripts in one of the forms.
 pub(crate) fn came(alloc: Global, parts: &[Term], forms: usize) -> Option<Vec<u8>> {
     let [commands, _wanted] = parts else {
         return None;

@@ -1,4 +1,4 @@
--- What the walks of the two methods share: how the wrapper lies round the inner allocator.
+-- The layout of the wrapper around the inner allocator, which the proofs of its two methods share.
 use Rattle.std.proofs.Common.{ℕ, ◌+◌, [], ◌∷◌, Bor}
 use mir.Syntax.{Args, a_type, dnil, dcons}
 use prog.Memory.{size, align, up}
@@ -22,6 +22,6 @@ module _ (Z : Al) where
   abbrev pub inner_place : Handle → ℕ × ℕ
   inner_place r = (r.ref_ptr.0, r.ref_ptr.1 + up (align (α Z)) 0)
 
-  -- and that of `gate`, whose words align to 8 bytes
+  -- the place of the field `gate`, whose words align to 8 bytes
   abbrev pub gate_place : Handle → ℕ × ℕ
   gate_place r = (r.ref_ptr.0, r.ref_ptr.1 + up 8 (up (align (α Z)) 0 + size (α Z)))

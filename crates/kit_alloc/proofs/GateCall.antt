@@ -1,4 +1,5 @@
--- `Gate::refuses_next` and `Gate::counts_returned` at a call: what each is handed, and what a caller has of it. Assumes `Logic`.
+-- `Gate::refuses_next` and `Gate::counts_returned` at a call: what each takes, and what a caller gets from it. Assumes
+-- `Logic`.
 use Rattle.std.proofs.Common.{◌≡◌, ℕ, Bool, List, [], ◌∷◌, refl, ap}
 use seplogic.Ra.Ura.{Ura}
 use mir.Val.{Val, vbool, vptr, vunit}

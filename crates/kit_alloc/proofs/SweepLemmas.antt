@@ -1,4 +1,4 @@
--- A call of the closure that a sweep is passed, as one of its runs.
+-- A call of the closure that a sweep is given, as one of its runs.
 use Rattle.std.proofs.Common.{◌≡◌, ℕ, Bool, Bor}
 use Rattle.std.proofs.lemmas.Fn.{called_at}
 use Rattle.std.specs.Fn.{Called}

@@ -11,19 +11,19 @@ use Rattle.kit_alloc.specs.declared.sweeps.SweepOutcome.{SweepOutcome}
 use Rattle.kit_alloc.specs.declared.sweeps.SweepOutcome.TheVariants.{Complete, OutOfRuns, Misbehaved}
 use Rattle.kit_alloc.specs.Failing.{inner_of, plan_of}
 
--- the sweep came to a run in which no request was refused
+-- the sweep reached a run in which no request was refused
 abbrev pub IsComplete : SweepOutcome → Type 0
 IsComplete (Complete runs) = Unit {0}
 IsComplete OutOfRuns = ⊥
 IsComplete (Misbehaved request) = ⊥
 
--- which requests the run of a number refuses
+-- the plan of the run of this number
 abbrev pub plan_by : Refusals → ℕ → Plan
 plan_by Alone request = Once request
 plan_by Onward request = From request
 
 module _ {F B : Type 0} (g : Mut F (Bor (Failing B) × Unit {0}) Bool) (inner : B) (plan : ℕ → Plan) where
-  -- a run of the closure f, over an allocator with the plan of this number, answers r and leaves f'
+  -- a run of the closure f, over an allocator with the plan of this number, returns r and leaves f'
   pub record Runs (f : F) (request : ℕ) (r : Bool) (f' : F) : Type 0 where
     pub heap : Failing B
     pub inner_is : inner_of heap ≡ inner
@@ -36,7 +36,7 @@ module _ {F B : Type 0} (g : Mut F (Bor (Failing B) × Unit {0}) Bool) (inner : 
     another : (last : ℕ) (mid f' : F) → RunWell f last mid → Runs mid (last + 1) true f'
         → RunWell f (last + 1) f'
 
-  -- what a sweep of at most so many runs answers
+  -- the outcome of a sweep of at most `most` runs
   abbrev pub SweepsTo : F → ℕ → SweepOutcome → Type 0
   SweepsTo f most (Complete runs) = (0 < runs) × (runs ≤ most) × ((f' : F) × RunWell f runs f')
   SweepsTo f most OutOfRuns = (f' : F) × RunWell f most f'

@@ -5,11 +5,12 @@ use crate::gate::Gate;
 use crate::plan::Plan;
 use std::alloc::{AllocError, Allocator};
 
-/// An allocator that counts its requests and refuses those that its plan says. The others go to
-/// the inner allocator. A growing collection makes a request too, and giving a block back is none.
+/// An allocator that counts the requests for blocks and refuses those that its plan says. It passes
+/// the others to the inner allocator. A growing collection makes requests too; freeing a block is
+/// not a request.
 ///
-/// A `&` to it is an allocator that is `Copy`: code under test that takes one is passed
-/// `&failing`.
+/// A `&` to it is an allocator that is `Copy`: pass `&failing` to code under test that takes an
+/// allocator.
 #[derive(Drop)]
 pub struct Failing<B: Allocator> {
     inner: B,
@@ -27,7 +28,7 @@ impl<B: Allocator> Failing<B> {
         }
     }
 
-    /// Counts its requests, and refuses none.
+    /// Returns an allocator that counts its requests, and refuses none.
     pub fn counting(inner: B) -> Failing<B>
         ensures inner { inner_of result ≡ inner }
         ensures plan { plan_of result ≡ Plan.Never }
@@ -35,7 +36,7 @@ impl<B: Allocator> Failing<B> {
         Failing::new(inner, Plan::Never)
     }
 
-    /// Refuses the request of this number alone. The first is number 1.
+    /// Returns an allocator that refuses the request of this number alone. The first is number 1.
     pub fn refusing_nth(inner: B, request: u64) -> Failing<B>
         ensures inner { inner_of result ≡ inner }
         ensures plan { plan_of result ≡ Plan.Once request }
@@ -43,7 +44,8 @@ impl<B: Allocator> Failing<B> {
         Failing::new(inner, Plan::Once(request))
     }
 
-    /// Refuses the request of this number and each later one. From 1 on it refuses all.
+    /// Returns an allocator that refuses the request of this number and each later one. From 1 on
+    /// it refuses all.
     pub fn refusing_from(inner: B, first: u64) -> Failing<B>
         ensures inner { inner_of result ≡ inner }
         ensures plan { plan_of result ≡ Plan.From first }
@@ -57,18 +59,19 @@ impl<B: Allocator> Failing<B> {
         self.gate.plan()
     }
 
-    /// The number of requests so far, refused ones included.
+    /// Returns the number of requests so far, including refused ones.
     pub fn requests(&self) -> u64 {
         self.gate.requests()
     }
 
-    /// Whether a request was refused by the plan. That the inner allocator refused one does not
+    /// Returns whether the plan refused a request. One that the inner allocator refused does not
     /// count.
     pub fn was_refused(&self) -> bool {
         self.gate.refused() != 0
     }
 
-    /// How many blocks were given and have not come back, if the inner allocator refused none.
+    /// Returns the number of blocks that were allocated and are not freed, provided that the inner
+    /// allocator refused none.
     pub fn blocks(&self) -> u64 {
         self.gate
             .requests()

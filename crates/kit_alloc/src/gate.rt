@@ -4,7 +4,8 @@ ghost use Rattle.kit_alloc.specs.Plan.{IsAnswer};
 use crate::plan::Plan;
 use std::sync::atomic::{AtomicU64, Ordering};
 
-// Counts the requests of an allocator and what is given back, from any thread, and says which requests are refused.
+// Counts the requests of an allocator and the blocks that are freed, from any thread, and says
+// which requests are refused.
 #[derive(Drop)]
 pub(crate) struct Gate {
     plan: Plan,
@@ -31,8 +32,8 @@ impl Gate {
         self.plan
     }
 
-    // Counts a request, and answers what the plan says of its number. Other threads count too, so
-    // the number may be any from 1 on.
+    // Counts a request, and returns whether the plan refuses it. Other threads count too, so its
+    // number may be any from 1 on.
     pub(crate) fn refuses_next(&self) -> bool
         ensures { IsAnswer self.now.plan result }
     {

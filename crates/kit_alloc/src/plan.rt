@@ -13,7 +13,7 @@ pub enum Plan {
 }
 
 impl Plan {
-    /// Whether the request of this number is refused.
+    /// Returns whether the request of this number is refused.
     pub fn refuses(self, request: u64) -> bool
         ensures { IsTrue result ↔ Refuses self request }
     {

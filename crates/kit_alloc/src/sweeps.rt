@@ -10,7 +10,8 @@ use std::alloc::Allocator;
 pub enum SweepOutcome {
     /// Each run behaved well, and in the last one no request was refused.
     Complete { runs: u64 },
-    /// Each run behaved well, and a request was refused in each: there are more requests to refuse.
+    /// Each run behaved well, and a request was refused in each: there may be more requests to
+    /// refuse.
     OutOfRuns,
     /// The run with this request refused did not behave well.
     Misbehaved { request: u64 },
@@ -24,17 +25,17 @@ impl SweepOutcome {
     }
 }
 
-/// Which requests the runs of a sweep refuse.
+/// Which requests each run of a sweep refuses.
 #[derive(Clone, Copy)]
 enum Refusals {
-    /// One alone.
+    /// The request with the number of the run alone.
     Alone,
-    /// Each from one on.
+    /// The request with the number of the run and all later ones.
     Onward,
 }
 
 impl Refusals {
-    /// The plan of the run of this number.
+    /// Returns the plan of the run of this number.
     fn plan(self, request: u64) -> Plan
         ensures { result ≡ plan_by self request }
     {
@@ -45,9 +46,10 @@ impl Refusals {
     }
 }
 
-/// Calls `run` with allocators over `inner`, by the plan of request 1, then by that of request 2,
-/// and so on, until a call meets no refusal, or answers that it did not behave well, or `runs`
-/// calls were made.
+/// Calls `run` with an allocator over `inner` for each of the plans of the runs 1, 2, and so on.
+/// Ends when no request is refused in a call, when a call returns that it did not behave well, or
+/// after `runs` calls. The first, second and third case are `Complete`, `Misbehaved` and
+/// `OutOfRuns`.
 fn swept<B: Allocator + Copy, F: FnMut(&Failing<B>) -> bool>(
     inner: B,
     runs: u64,
@@ -70,9 +72,9 @@ fn swept<B: Allocator + Copy, F: FnMut(&Failing<B>) -> bool>(
     SweepOutcome::OutOfRuns
 }
 
-/// Calls `run` with an allocator over `inner` that refuses request 1, then with one that refuses
-/// request 2, and so on, until a call meets no refusal, or answers that it did not behave well, or
-/// `runs` calls were made.
+/// Calls `run` with an allocator over `inner` that refuses request 1 alone, then with one that
+/// refuses request 2 alone, and so on. Ends when no request is refused in a call, when a call
+/// returns `false` since it did not behave well, or after `runs` calls.
 pub fn sweep<B: Allocator + Copy, F: FnMut(&Failing<B>) -> bool>(
     inner: B,
     runs: u64,
@@ -84,7 +86,9 @@ pub fn sweep<B: Allocator + Copy, F: FnMut(&Failing<B>) -> bool>(
     swept(inner, runs, Refusals::Alone, run)
 }
 
-/// The same, where with a request each behind it is refused, too.
+/// Calls `run` with an allocator over `inner` that refuses request 1 and all later ones, then with
+/// one that refuses request 2 and all later ones, and so on. Ends when no request is refused in a
+/// call, when a call returns `false` since it did not behave well, or after `runs` calls.
 pub fn sweep_onward<B: Allocator + Copy, F: FnMut(&Failing<B>) -> bool>(
     inner: B,
     runs: u64,

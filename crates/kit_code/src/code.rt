@@ -1,19 +1,19 @@
-//! Code that is built of its parts: the constants first, then the main body and each routine in turn, the instructions
-//! of each before its frames.
+//! Code that is built of its parts with a `Builder`: the constants first, then the main body and each routine in turn.
+//! The instructions of a body come before its frames.
 use crate::frame::same_frame;
 use crate::parts::{BodyParts, Parts, RoutineParts, parts_of};
 use mcode::{Body, Builder, Code, Fault, Frame, Instr};
 use std::alloc::Allocator;
 use term_core::Term;
 
-/// What a builder takes.
+/// What is given to a builder.
 #[derive(Clone, Copy, Debug, PartialEq, Eq)]
 pub enum Part {
     /// The number of slots.
     Slots,
     /// A constant.
     Constant,
-    /// A routine, of which only its signature and the number of its slots are there.
+    /// A routine, of which only its signature and its number of slots are given.
     Routine,
     /// An instruction.
     Instruction,
@@ -21,28 +21,29 @@ pub enum Part {
     Frame,
 }
 
-/// What comes of parts that are given to a builder.
+/// The result of giving parts to a builder.
 #[derive(Drop)]
 pub enum Built<A: Allocator> {
-    /// All were taken.
+    /// All parts were accepted.
     Whole(Code<A>),
-    /// The number of slots was refused for a fault of this number.
+    /// The number of slots was rejected with this error code.
     NoSlots(u8),
-    /// A part was refused for a fault of this number and came back, where it is no routine, and this is the code of
-    /// those before it.
+    /// A part was rejected with this error code and, unless it is a routine, returned. This is the code of the parts
+    /// before it.
     Refused(Part, u8, Code<A>),
-    /// The builder answered another number, handed back another part, or had other parts in the end.
+    /// The builder gave a wrong number, returned another part, or had other parts in the end.
     Wrong,
 }
 
-/// Why not all parts were taken.
+/// Why not all parts were accepted.
 #[derive(Drop)]
 enum Stop {
     Refused(Part, u8),
     Wrong,
 }
 
-/// Why a part was not taken, which has to be as it was given.
+/// Returns why a part was not accepted: rejected with an error code if it was returned unchanged (`is_whole`), else
+/// wrong.
 fn stop_at(part: Part, fault: Fault, is_whole: bool) -> Stop {
     if is_whole {
         Stop::Refused(part, fault.number())
@@ -51,7 +52,7 @@ fn stop_at(part: Part, fault: Fault, is_whole: bool) -> Stop {
     }
 }
 
-/// Whether the term at a place is this one.
+/// Returns whether the term at a place is this one.
 fn is_at<A: Allocator>(terms: &[Term<A>], place: usize, term: &Term<A>) -> bool {
     match terms.get(place) {
         Some(wanted) => *wanted == *term,
@@ -59,7 +60,7 @@ fn is_at<A: Allocator>(terms: &[Term<A>], place: usize, term: &Term<A>) -> bool 
     }
 }
 
-/// Whether what was taken has the number that its place says.
+/// Checks that a part that was accepted has the number of its place.
 fn check_number(number: u16, place: usize) -> Result<(), Stop> {
     if usize::from(number) == place {
         Ok(())
@@ -107,7 +108,7 @@ fn add_instructions<A: Allocator>(builder: &mut Builder<A>, given: &[Instr]) -> 
     Ok(())
 }
 
-/// Whether the frame at a place is this one.
+/// Returns whether the frame at a place is this one.
 fn is_frame_at<A: Allocator>(frames: &[Frame<A>], place: usize, frame: &Frame<A>) -> bool {
     match frames.get(place) {
         Some(wanted) => same_frame(wanted, frame),
@@ -144,7 +145,7 @@ fn add_frames<A: Allocator>(
     Ok(())
 }
 
-/// Adds the instructions and the frames of the newest body.
+/// Gives a builder the instructions and the frames of the newest body.
 fn add_body<A: Allocator>(
     builder: &mut Builder<A>,
     given: BodyParts<A>,
@@ -164,7 +165,7 @@ fn add_body<A: Allocator>(
     }
 }
 
-/// Adds a routine, whose number is one above its place, as the main body has the first.
+/// Gives a builder a routine. Its number is its place plus 1, since the main body has number 0.
 fn add_routine<A: Allocator + Copy>(
     builder: &mut Builder<A>,
     place: usize,
@@ -204,7 +205,7 @@ fn add_routines<A: Allocator + Copy>(
     Ok(())
 }
 
-/// Whether these constants are the first of those.
+/// Returns whether these constants are the first of the wanted ones.
 fn are_first_constants<A: Allocator>(constants: &[Term<A>], wanted: &[Term<A>]) -> bool {
     for place in 0..constants.len() {
         if !is_at(wanted, place, &constants[place]) {
@@ -214,7 +215,7 @@ fn are_first_constants<A: Allocator>(constants: &[Term<A>], wanted: &[Term<A>]) 
     true
 }
 
-/// Whether these frames are the first of those.
+/// Returns whether these frames are the first of the wanted ones.
 fn are_first_frames<A: Allocator>(frames: &[Frame<A>], wanted: &[Frame<A>]) -> bool {
     for place in 0..frames.len() {
         if !is_frame_at(wanted, place, &frames[place]) {
@@ -224,7 +225,7 @@ fn are_first_frames<A: Allocator>(frames: &[Frame<A>], wanted: &[Frame<A>]) -> b
     true
 }
 
-/// Whether a body has the slots, and the first of these instructions and frames.
+/// Returns whether a body has the wanted number of slots, and the first of the wanted instructions and frames.
 fn is_body_front<A: Allocator>(body: &Body<'_, A>, parts: &BodyParts<A>) -> bool {
     body.slots() == parts.slots
         && parts
@@ -234,13 +235,13 @@ fn is_body_front<A: Allocator>(body: &Body<'_, A>, parts: &BodyParts<A>) -> bool
         && are_first_frames(body.frames(), parts.frames.as_slice())
 }
 
-/// Whether a body has as many instructions and frames as these are.
+/// Returns whether a body has as many instructions and frames as wanted.
 fn is_body_whole<A: Allocator>(body: &Body<'_, A>, parts: &BodyParts<A>) -> bool {
     body.instructions().len() == parts.instructions.len()
         && body.frames().len() == parts.frames.len()
 }
 
-/// Whether a body is a routine of this signature.
+/// Returns whether a body is a routine with this signature.
 fn is_of<A: Allocator>(body: &Body<'_, A>, parts: &RoutineParts<A>) -> bool {
     match body.own_routine() {
         Some(routine) => {
@@ -250,7 +251,7 @@ fn is_of<A: Allocator>(body: &Body<'_, A>, parts: &RoutineParts<A>) -> bool {
     }
 }
 
-/// The body of code at a place, where there is one: the main body stands at 0.
+/// Returns the body of code with this number, if there is one; the main body has number 0.
 pub(crate) fn body_at<A: Allocator>(code: &Code<A>, place: usize) -> Option<Body<'_, A>> {
     if place > code.routines().len() {
         return None;
@@ -258,7 +259,8 @@ pub(crate) fn body_at<A: Allocator>(code: &Code<A>, place: usize) -> Option<Body
     Some(Body::of(code, u16::try_from(place).ok()?))
 }
 
-/// Whether the routine at a place of code has its signature and the first of these parts, or all of them.
+/// Returns whether the routine at a place of code has the wanted signature, and the first of the wanted parts, or all
+/// of them if `is_whole`.
 fn has_routine<A: Allocator>(
     code: &Code<A>,
     place: usize,
@@ -274,7 +276,7 @@ fn has_routine<A: Allocator>(
         && (!is_whole || is_body_whole(&body, &parts.body))
 }
 
-/// Whether code has the first of these routines, of which the last may have the first of its parts alone.
+/// Returns whether code has the first of the wanted routines. The last of them may have only the first of its parts.
 fn are_first_routines<A: Allocator>(code: &Code<A>, wanted: &[RoutineParts<A>]) -> bool {
     let count = code.routines().len();
     for place in 0..count {
@@ -285,7 +287,7 @@ fn are_first_routines<A: Allocator>(code: &Code<A>, wanted: &[RoutineParts<A>]) 
     true
 }
 
-/// Whether code has the first of these parts, those of the main body before those of routines.
+/// Returns whether code has the first of the wanted parts, where those of the main body come before those of routines.
 fn is_front<A: Allocator>(code: &Code<A>, parts: &Parts<A>) -> bool {
     let main = Body::of(code, 0);
     are_first_constants(code.constants(), parts.constants.as_slice())
@@ -294,7 +296,7 @@ fn is_front<A: Allocator>(code: &Code<A>, parts: &Parts<A>) -> bool {
         && are_first_routines(code, parts.routines.as_slice())
 }
 
-/// Whether the last body of code has as many parts as these.
+/// Returns whether the last body of code has as many parts as wanted.
 fn is_last_whole<A: Allocator>(code: &Code<A>, parts: &Parts<A>) -> bool {
     match (parts.routines.last(), body_at(code, parts.routines.len())) {
         (Some(last), Some(body)) => is_body_whole(&body, &last.body),
@@ -303,7 +305,7 @@ fn is_last_whole<A: Allocator>(code: &Code<A>, parts: &Parts<A>) -> bool {
     }
 }
 
-/// Whether code has these parts.
+/// Returns whether code has exactly these parts.
 pub fn is_code<A: Allocator>(code: &Code<A>, parts: &Parts<A>) -> bool {
     is_front(code, parts)
         && code.constants().len() == parts.constants.len()
@@ -311,7 +313,7 @@ pub fn is_code<A: Allocator>(code: &Code<A>, parts: &Parts<A>) -> bool {
         && is_last_whole(code, parts)
 }
 
-/// Adds the main body and the routines.
+/// Gives a builder the main body and the routines.
 fn add_bodies<A: Allocator + Copy>(
     builder: &mut Builder<A>,
     main: BodyParts<A>,
@@ -347,7 +349,7 @@ fn add_all<A: Allocator + Copy>(
     }
 }
 
-/// What comes of code of parts that were added so far.
+/// Returns the result for the code of the parts that were accepted so far.
 fn finished<A: Allocator>(code: Code<A>, added: Result<(), Stop>, wanted: &Parts<A>) -> Built<A> {
     if !is_front(&code, wanted) {
         drop(code);
@@ -363,7 +365,8 @@ fn finished<A: Allocator>(code: Code<A>, added: Result<(), Stop>, wanted: &Parts
     }
 }
 
-/// Gives parts to a builder; the same once more are what has to be there in the end.
+/// Gives parts to a builder, and returns the result. `wanted` are the same parts again, with which the code is
+/// compared.
 pub fn build<A: Allocator + Copy>(heap: A, given: Parts<A>, wanted: &Parts<A>) -> Built<A> {
     let mut builder = match Builder::new(heap, given.main.slots) {
         Ok(builder) => builder,
@@ -376,7 +379,7 @@ pub fn build<A: Allocator + Copy>(heap: A, given: Parts<A>, wanted: &Parts<A>) -
     finished(builder.finish(), added, wanted)
 }
 
-/// The code that was built of all parts.
+/// Returns the code if it was built of all parts, else `None`.
 fn whole<A: Allocator>(built: Built<A>) -> Option<Code<A>> {
     match built {
         Built::Whole(code) => Some(code),
@@ -388,7 +391,7 @@ fn whole<A: Allocator>(built: Built<A>) -> Option<Code<A>> {
     }
 }
 
-/// The code that a term says, where its parts are these; none where it can't be built.
+/// Returns the code that a term describes, whose parts are `wanted`, or `None` if it can't be built.
 fn code_of_parts<A: Allocator + Copy>(
     heap: A,
     term: &Term<A>,
@@ -397,7 +400,7 @@ fn code_of_parts<A: Allocator + Copy>(
     whole(build(heap, parts_of(heap, term)?, wanted))
 }
 
-/// The code that a term says, none where it can't be built.
+/// Returns the code that a term describes, or `None` if it can't be built.
 pub fn code_of<A: Allocator + Copy>(heap: A, term: &Term<A>) -> Option<Code<A>> {
     let wanted = parts_of(heap, term)?;
     let code = code_of_parts(heap, term, &wanted);

@@ -1,16 +1,16 @@
-//! The verified code of a term.
+//! Verified code from terms.
 use kit_rows::Outcome;
 use std::alloc::{Allocator, Global};
 use term_core::Term;
 use verifier::Verified;
 
-/// What terms a program takes for code.
+/// Which terms a program accepts as code.
 pub trait CodeTerms {
-    /// The verified code that a term says, with memory from `heap`.
+    /// Returns the verified code that a term describes, with memory from `heap`, or `None`.
     fn verified_of<A: Allocator + Copy>(heap: A, term: &Term<A>) -> Option<Verified<A>>;
 }
 
-/// The budget and the depth of verified code.
+/// Returns the text of `{accepted,Budget,Depth}` of verified code.
 pub fn accepted<A: Allocator>(alloc: Global, code: &Verified<A>) -> Option<Vec<u8>> {
     let out = Outcome::tuple(alloc).word("accepted");
     out.number(code.budget() as usize)

@@ -1,14 +1,14 @@
 //! Frames in a row.
 //!
-//! A frame is `{Pc,Depth,[{Place,Kind}],[Slot]}`. In a list of frames `{First,Count}` stands for so many of depth 0 and
-//! any kinds at instructions that rise by one, among places `{First,Count,Kind}` for so many of one kind, among slots
-//! `{First,Count}`.
+//! A frame is `{Pc,Depth,[{Place,Kind}],[Slot]}`. In a list of frames, `{First,Count}` means that many frames of depth
+//! 0 and any kinds, at ascending instructions. Among places, `{First,Count,Kind}` means that many places of one kind,
+//! and among slots `{First,Count}` means that many slots.
 use kit_rows::{elements, fields, is_atom, number, short};
 use mcode::{Frame, Kind, Places, Slots};
 use std::alloc::Allocator;
 use term_core::Term;
 
-/// The kinds that are named by a word.
+/// The kinds that a word names.
 const KINDS: [(&str, Kind); 5] = [
     ("any", Kind::Any),
     ("int", Kind::Int),
@@ -17,7 +17,7 @@ const KINDS: [(&str, Kind); 5] = [
     ("map", Kind::Map),
 ];
 
-/// The one of these kinds that a term names.
+/// Returns the one of these kinds that a term names, or `None`.
 fn named<A: Allocator>(kinds: &[(&str, Kind)], term: &Term<A>) -> Option<Kind> {
     for (name, kind) in kinds {
         if is_atom(term, name) {
@@ -27,7 +27,7 @@ fn named<A: Allocator>(kinds: &[(&str, Kind)], term: &Term<A>) -> Option<Kind> {
     None
 }
 
-/// The kind that a term says.
+/// Returns the kind that a term describes, or `None`.
 pub(crate) fn kind<A: Allocator>(term: &Term<A>) -> Option<Kind> {
     match fields(term) {
         Some([tuple, size]) if is_atom(tuple, "tuple") => Some(Kind::Tuple(short(size)?)),
@@ -35,7 +35,7 @@ pub(crate) fn kind<A: Allocator>(term: &Term<A>) -> Option<Kind> {
     }
 }
 
-/// Adds so many places of one kind, from the first on.
+/// Appends `count` places of one kind, from `first` on.
 fn push_places<A: Allocator>(
     out: &mut Vec<(u16, Kind), A>,
     first: u32,
@@ -48,7 +48,7 @@ fn push_places<A: Allocator>(
     Some(())
 }
 
-/// Adds what a member of a list of places says.
+/// Appends the places that a member of a list describes.
 fn push_member<A: Allocator>(out: &mut Vec<(u16, Kind), A>, member: &[Term<A>]) -> Option<()> {
     match member {
         [place, named] => out.push((short(place)?, kind(named)?)).ok(),
@@ -57,7 +57,7 @@ fn push_member<A: Allocator>(out: &mut Vec<(u16, Kind), A>, member: &[Term<A>]) 
     }
 }
 
-/// Adds the places that the members of a list say.
+/// Appends the places that the members of a list describe.
 fn push_members<A: Allocator>(out: &mut Vec<(u16, Kind), A>, members: &[Term<A>]) -> Option<()> {
     for member in members {
         push_member(out, fields(member)?)?;
@@ -65,7 +65,7 @@ fn push_members<A: Allocator>(out: &mut Vec<(u16, Kind), A>, members: &[Term<A>]
     Some(())
 }
 
-/// The places that a list says.
+/// Returns the places that a list describes.
 fn places<A: Allocator + Copy>(heap: A, list: &Term<A>) -> Option<Vec<(u16, Kind), A>> {
     let members = elements(list)?;
     let mut out = Vec::new(heap);
@@ -75,7 +75,7 @@ fn places<A: Allocator + Copy>(heap: A, list: &Term<A>) -> Option<Vec<(u16, Kind
     }
 }
 
-/// Adds so many slots, from the first on.
+/// Appends `count` slots, from `first` on.
 fn push_slots<A: Allocator>(out: &mut Vec<u8, A>, first: u32, count: u32) -> Option<()> {
     for slot in first..first.saturating_add(count) {
         out.push(u8::try_from(slot).ok()?).ok()?;
@@ -83,7 +83,7 @@ fn push_slots<A: Allocator>(out: &mut Vec<u8, A>, first: u32, count: u32) -> Opt
     Some(())
 }
 
-/// The first slot that a member of a list of slots says, and how many there are.
+/// Returns the first slot that a member of a list describes, and the number of slots.
 fn slot_range<A: Allocator>(member: &Term<A>) -> Option<(u32, u32)> {
     match fields(member) {
         Some([first, count]) => Some((number(first)?, number(count)?)),
@@ -91,7 +91,7 @@ fn slot_range<A: Allocator>(member: &Term<A>) -> Option<(u32, u32)> {
     }
 }
 
-/// The slots that a list says.
+/// Returns the slots that a list describes.
 fn slots<A: Allocator + Copy>(heap: A, list: &Term<A>) -> Option<Vec<u8, A>> {
     let mut out = Vec::new(heap);
     for member in elements(list)? {
@@ -101,7 +101,7 @@ fn slots<A: Allocator + Copy>(heap: A, list: &Term<A>) -> Option<Vec<u8, A>> {
     Some(out)
 }
 
-/// A frame of depth 0 and any kinds.
+/// Returns a frame of depth 0 and any kinds, at this instruction.
 fn bare<A: Allocator + Copy>(heap: A, pc: u32) -> Option<Frame<A>> {
     Some(Frame {
         pc: u16::try_from(pc).ok()?,
@@ -111,7 +111,7 @@ fn bare<A: Allocator + Copy>(heap: A, pc: u32) -> Option<Frame<A>> {
     })
 }
 
-/// Adds so many frames of depth 0 and any kinds.
+/// Appends `count` frames of depth 0 and any kinds, from the instruction `first` on.
 fn push_bare<A: Allocator + Copy>(
     heap: A,
     out: &mut Vec<Frame<A>, A>,
@@ -124,7 +124,7 @@ fn push_bare<A: Allocator + Copy>(
     Some(())
 }
 
-/// The frame at an instruction, of a depth, of the places and slots that these lists say.
+/// Returns the frame at an instruction, of this depth, with the places and slots that these lists describe.
 fn frame<A: Allocator + Copy>(
     heap: A,
     pc: u16,
@@ -141,7 +141,7 @@ fn frame<A: Allocator + Copy>(
     })
 }
 
-/// Adds what a member of a list of frames says.
+/// Appends the frames that a member of a list describes.
 fn push_frame<A: Allocator + Copy>(
     heap: A,
     out: &mut Vec<Frame<A>, A>,
@@ -157,7 +157,7 @@ fn push_frame<A: Allocator + Copy>(
     }
 }
 
-/// Adds what the members of a list of frames say.
+/// Appends the frames that the members of a list describe.
 fn push_frames<A: Allocator + Copy>(
     heap: A,
     out: &mut Vec<Frame<A>, A>,
@@ -169,7 +169,7 @@ fn push_frames<A: Allocator + Copy>(
     Some(())
 }
 
-/// The frames that a list says.
+/// Returns the frames that a list describes, or `None`.
 pub(crate) fn frames<A: Allocator + Copy>(heap: A, list: &Term<A>) -> Option<Vec<Frame<A>, A>> {
     let members = elements(list)?;
     let mut out = Vec::new(heap);
@@ -182,7 +182,7 @@ pub(crate) fn frames<A: Allocator + Copy>(heap: A, list: &Term<A>) -> Option<Vec
     }
 }
 
-/// Whether two frames are the same.
+/// Returns whether two frames are equal.
 pub(crate) fn same_frame<A: Allocator>(left: &Frame<A>, right: &Frame<A>) -> bool {
     left.pc == right.pc
         && left.depth == right.depth

@@ -1,14 +1,15 @@
 //! Instructions in a row.
 //!
-//! An instruction without operands is an atom, `load`; one with operands a tuple, `{tuple,2,4}`, `{call,hd,1,5}`,
-//! `{arith,'+',7}`: its name, what it needs, and where it jumps to. In a list of instructions `{Count,[Instruction]}`
-//! stands for so many times the same, and `{invoke,next,3}` invokes the routine behind the body that it stands in.
+//! An instruction without operands is an atom, `load`. One with operands is a tuple, `{tuple,2,4}`, `{call,hd,1,5}`,
+//! `{arith,'+',7}`: its name, what it needs, and where it jumps. In a list of instructions, `{Count,[Instruction]}`
+//! means that these are repeated `Count` times. `{invoke,next,3}` invokes the routine that follows the body that it is
+//! in.
 use kit_rows::{arithmetic, elements, fields, function, is_atom, name, number, short};
 use mcode::Instr;
 use std::alloc::Allocator;
 use term_core::Term;
 
-/// The instruction of a name, without operands.
+/// Returns the instruction with this name and no operands, or `None`.
 fn bare(name: &str) -> Option<Instr> {
     match name {
         "load" => Some(Instr::Load),
@@ -24,7 +25,7 @@ fn bare(name: &str) -> Option<Instr> {
     }
 }
 
-/// The instruction of a name and one number.
+/// Returns the instruction with this name and one number, or `None`.
 fn with_one(name: &str, operand: u16) -> Option<Instr> {
     match name {
         "const" => Some(Instr::Const { constant: operand }),
@@ -47,7 +48,7 @@ fn with_one(name: &str, operand: u16) -> Option<Instr> {
     }
 }
 
-/// The instruction of a name, a number and where it jumps to.
+/// Returns the instruction with this name, a number and where it jumps, or `None`.
 fn with_two(name: &str, operand: u16, otherwise: u16) -> Option<Instr> {
     match name {
         "tuple" => Some(Instr::Tuple {
@@ -74,7 +75,7 @@ fn with_two(name: &str, operand: u16, otherwise: u16) -> Option<Instr> {
     }
 }
 
-/// The instruction that computes the function of a name, of two integers.
+/// Returns the instruction that computes the arithmetic function of this name, or `None`.
 fn arith<A: Allocator>(named: &Term<A>, otherwise: u16) -> Option<Instr> {
     Some(Instr::Arith {
         function: arithmetic(named)?,
@@ -82,7 +83,7 @@ fn arith<A: Allocator>(named: &Term<A>, otherwise: u16) -> Option<Instr> {
     })
 }
 
-/// The instruction that calls the function of a name.
+/// Returns the instruction that calls the function of this name, or `None`.
 fn call<A: Allocator>(named: &Term<A>, arguments: u16, otherwise: u16) -> Option<Instr> {
     Some(Instr::Call {
         function: function(named)?,
@@ -91,7 +92,7 @@ fn call<A: Allocator>(named: &Term<A>, arguments: u16, otherwise: u16) -> Option
     })
 }
 
-/// The instruction that invokes the routine behind the body of this number.
+/// Returns the instruction that invokes the routine after the body with number `own`.
 fn invoke_next(own: u16, otherwise: u16) -> Option<Instr> {
     Some(Instr::Invoke {
         routine: own.checked_add(1)?,
@@ -99,7 +100,8 @@ fn invoke_next(own: u16, otherwise: u16) -> Option<Instr> {
     })
 }
 
-/// The instruction of a name and operands, in the body of this number. The last of several says where it jumps to.
+/// Returns the instruction with this name and these operands, in the body with number `own`. If there are several
+/// operands, the last one is where it jumps.
 fn with_operands<A: Allocator>(name: &str, own: u16, operands: &[Term<A>]) -> Option<Instr> {
     let last = short(operands.last()?)?;
     match operands {
@@ -112,13 +114,13 @@ fn with_operands<A: Allocator>(name: &str, own: u16, operands: &[Term<A>]) -> Op
     }
 }
 
-/// The instruction that a tuple of a name and operands says, in the body of this number.
+/// Returns the instruction that a tuple of a name and operands describes, in the body with number `own`.
 fn of_fields<A: Allocator + Copy>(heap: A, own: u16, fields: &[Term<A>]) -> Option<Instr> {
     let (first, operands) = fields.split_first()?;
     with_operands(name(heap, first)?.as_str(), own, operands)
 }
 
-/// The instruction that a term says, in the body of this number.
+/// Returns the instruction that a term describes, in the body with number `own`, or `None`.
 pub fn instruction<A: Allocator + Copy>(heap: A, own: u16, term: &Term<A>) -> Option<Instr> {
     match fields(term) {
         Some(fields) => of_fields(heap, own, fields),
@@ -126,7 +128,7 @@ pub fn instruction<A: Allocator + Copy>(heap: A, own: u16, term: &Term<A>) -> Op
     }
 }
 
-/// Adds each of these instructions.
+/// Appends each of these instructions.
 fn push_all<A: Allocator + Copy>(
     heap: A,
     own: u16,
@@ -139,7 +141,7 @@ fn push_all<A: Allocator + Copy>(
     Some(())
 }
 
-/// Adds these instructions so many times.
+/// Appends these instructions `count` times.
 fn push_repeated<A: Allocator + Copy>(
     heap: A,
     own: u16,
@@ -155,7 +157,7 @@ fn push_repeated<A: Allocator + Copy>(
     Some(())
 }
 
-/// Adds what a member of a list of instructions says.
+/// Appends the instructions that a member of a list describes.
 fn push_member<A: Allocator + Copy>(
     heap: A,
     own: u16,
@@ -170,7 +172,7 @@ fn push_member<A: Allocator + Copy>(
     out.push(instruction(heap, own, member)?).ok()
 }
 
-/// The instructions that a list says, in the body of this number.
+/// Returns the instructions that a list describes, in the body with number `own`, or `None`.
 pub(crate) fn instructions<A: Allocator + Copy>(
     heap: A,
     own: u16,

@@ -1,14 +1,14 @@
-//! Code of rows of tests: the one assembler of code from terms, and what code and specifications answer.
+//! Code of rows of tests: an assembler of code from terms, and the answers of code and of specifications.
 //!
-//! A program says what terms it takes for code (`CodeTerms`). What is read from a row is generic in the allocator, so
-//! that a test may refuse memory meanwhile.
+//! A program says which terms it accepts as code (`CodeTerms`). What is read from a row is generic in the allocator, so
+//! that a test may make allocations fail meanwhile.
 //!
 //! - `instr`: instructions; `frame`: frames; `parts`: the parts of code, with its routines; `code`: code that a builder
 //!   makes of them.
-//! - `codes`: the verified code of a term.
-//! - `runs`: what it answers on objects; `loads`: the same of the code of a text and the objects behind it, also by one
-//!   machine that is asked again where it was refused.
-//! - `meanings`: what a specification answers, and whether its code answers that.
+//! - `codes`: verified code from terms.
+//! - `runs`: the answers of code on objects; `loads`: the answers of the code of a text on the objects that follow it,
+//!   also by one machine that is called again after an allocation failed.
+//! - `meanings`: the answers of a specification, and whether its code gives them too.
 #![tactic(auto)]
 
 mod code;

@@ -1,4 +1,4 @@
-//! The code of a text, and the objects behind it.
+//! The code of a text, and the objects that follow it.
 use crate::codes::CodeTerms;
 use kit_rows::{Outcome, canonical, truth_name, was_some, word};
 use machine::{Machine, run, run_true};
@@ -7,7 +7,7 @@ use term_core::Term;
 use term_text::read_terms;
 use verifier::Verified;
 
-/// The code that the first of these terms says.
+/// Returns the code that the first of these terms describes.
 fn first_code<C: CodeTerms, A: Allocator + Copy>(
     heap: A,
     terms: &[Term<A>],
@@ -15,7 +15,7 @@ fn first_code<C: CodeTerms, A: Allocator + Copy>(
     C::verified_of(heap, terms.first()?)
 }
 
-/// Whether a text says code, and the code and the terms of the text are there.
+/// Reads the terms of a text and the code that the first describes, and returns whether that succeeded.
 pub fn is_loaded<C: CodeTerms, A: Allocator + Copy>(heap: A, given: &[u8]) -> bool {
     let Ok(terms) = read_terms(heap, given) else {
         return false;
@@ -25,7 +25,7 @@ pub fn is_loaded<C: CodeTerms, A: Allocator + Copy>(heap: A, given: &[u8]) -> bo
     is_loaded
 }
 
-/// The text of an answer.
+/// Returns the text of an answer, or `none` if there is none.
 fn answer_text<A: Allocator>(alloc: Global, answer: Option<&Term<A>>) -> Option<Vec<u8>> {
     match answer {
         Some(answer) => canonical(alloc, answer),
@@ -33,7 +33,7 @@ fn answer_text<A: Allocator>(alloc: Global, answer: Option<&Term<A>>) -> Option<
     }
 }
 
-/// The answer of code on an object.
+/// Returns the text of the answer of code on an object, or `None` if memory runs out.
 fn ran<A: Allocator + Copy>(
     alloc: Global,
     heap: A,
@@ -48,7 +48,8 @@ fn ran<A: Allocator + Copy>(
     text
 }
 
-/// Whether that answer is `true`, and how many instructions are executed.
+/// Returns the text of a pair: whether the answer of code on an object is `true`, and how many instructions were
+/// executed. Returns `None` if memory runs out.
 fn tested<A: Allocator + Copy>(
     alloc: Global,
     heap: A,
@@ -60,7 +61,7 @@ fn tested<A: Allocator + Copy>(
     out.number(executed as usize).end()
 }
 
-/// What comes of a call of a name that runs code on an object.
+/// Returns the result of the call of this name, which runs code on an object.
 fn outcome_on<A: Allocator + Copy>(
     alloc: Global,
     heap: A,
@@ -75,7 +76,8 @@ fn outcome_on<A: Allocator + Copy>(
     }
 }
 
-/// What comes of a call of a name that runs the code that the first of these terms says, on the last.
+/// Returns the result of the call of this name, which runs the code that the first of these terms describes on the last
+/// term.
 fn outcome_of<C: CodeTerms, A: Allocator + Copy>(
     alloc: Global,
     heap: A,
@@ -89,7 +91,8 @@ fn outcome_of<C: CodeTerms, A: Allocator + Copy>(
     out
 }
 
-/// What comes of a call of a name that runs the code of a text, with memory from `heap`; none for want of memory.
+/// Returns the result of the call of this name, which runs the code of a text on its last term, with memory from
+/// `heap`. Returns `None` if memory runs out.
 pub fn run_outcome<C: CodeTerms, A: Allocator + Copy>(
     alloc: Global,
     heap: A,
@@ -104,7 +107,7 @@ pub fn run_outcome<C: CodeTerms, A: Allocator + Copy>(
     out
 }
 
-/// The answer of a machine on an object.
+/// Returns the text of the answer of a machine on an object, or `None` if memory runs out.
 fn ran_by<'a, A: Allocator + Copy>(
     alloc: Global,
     machine: &mut Machine<'a, '_, A>,
@@ -118,7 +121,7 @@ fn ran_by<'a, A: Allocator + Copy>(
     text
 }
 
-/// Whether that answer is `true`.
+/// Returns the text of whether the answer of a machine on an object is `true`, or `None` if memory runs out.
 fn tested_by<'a, A: Allocator + Copy>(
     alloc: Global,
     machine: &mut Machine<'a, '_, A>,
@@ -128,7 +131,7 @@ fn tested_by<'a, A: Allocator + Copy>(
     word(alloc, truth_name(holds))
 }
 
-/// What comes of a call of a name on a machine.
+/// Returns the result of the call of this name on a machine, or `None` if memory runs out.
 fn asked<'a, A: Allocator + Copy>(
     alloc: Global,
     call: &str,
@@ -142,7 +145,8 @@ fn asked<'a, A: Allocator + Copy>(
     }
 }
 
-/// The same where the machine is asked again when it wants memory, and `wanting` where it wants memory again.
+/// Returns the result of the call of this name on a machine, which is made again if memory runs out; `wanting` if it
+/// runs out again.
 fn asked_again<'a, A: Allocator + Copy>(
     alloc: Global,
     call: &str,
@@ -158,7 +162,8 @@ fn asked_again<'a, A: Allocator + Copy>(
     word(alloc, "wanting")
 }
 
-/// What one machine is so asked on each of these objects.
+/// Returns the results of the call of this name on one machine, for each of these objects. A call that runs out of
+/// memory is made again.
 fn asked_on_each<A: Allocator + Copy>(
     alloc: Global,
     heap: A,
@@ -175,7 +180,8 @@ fn asked_on_each<A: Allocator + Copy>(
     out.end()
 }
 
-/// The same of the code that the first of these terms says, on those behind it.
+/// Returns the results of the call of this name on one machine of the code that the first of these terms describes, for
+/// each of the terms after it.
 fn again_on_terms<C: CodeTerms, A: Allocator + Copy>(
     alloc: Global,
     heap: A,
@@ -189,8 +195,9 @@ fn again_on_terms<C: CodeTerms, A: Allocator + Copy>(
     out
 }
 
-/// What comes of a call of a name that runs the code of a text on each object behind it, by one machine, which is asked
-/// again on the same object where it wants memory; none where the text wants memory.
+/// Returns the results of the call of this name on one machine of the code of a text, for each object that follows it.
+/// A call that runs out of memory is made again on the same object. Returns `None` if memory runs out while the text is
+/// read.
 pub fn again_outcome<C: CodeTerms, A: Allocator + Copy>(
     alloc: Global,
     heap: A,

@@ -1,4 +1,4 @@
-//! What a specification answers, and whether its code answers that.
+//! The answers of a specification, and whether its code gives them too.
 use compiler::compile;
 use kit_rows::{listed, put, word};
 use machine::Machine;
@@ -10,7 +10,7 @@ use term_core::Term;
 use term_text::read_terms;
 use verifier::Verified;
 
-/// Whether two answers are the same.
+/// Returns whether two answers are equal.
 fn same<A: Allocator>(left: Option<&Term<A>>, right: Option<&Term<A>>) -> bool {
     match (left, right) {
         (Some(left), Some(right)) => left == right,
@@ -19,7 +19,7 @@ fn same<A: Allocator>(left: Option<&Term<A>>, right: Option<&Term<A>>) -> bool {
     }
 }
 
-/// Whether what a run answered is what its specification answers on an object; none for want of memory.
+/// Returns whether the answer of a run is that of its specification on an object, or `None` if memory runs out.
 fn is_meant<A: Allocator + Copy>(
     heap: A,
     ran: Option<&Term<A>>,
@@ -34,7 +34,7 @@ fn is_meant<A: Allocator + Copy>(
     Some(is_meant)
 }
 
-/// Whether a machine answers what its specification does.
+/// Returns whether the answer of a machine on an object is that of its specification, or `None` if memory runs out.
 fn agrees_on<'a, A: Allocator + Copy>(
     heap: A,
     machine: &mut Machine<'a, '_, A>,
@@ -49,7 +49,8 @@ fn agrees_on<'a, A: Allocator + Copy>(
     agrees
 }
 
-/// Whether a machine answers what its specification does, on each of these objects.
+/// Returns whether the answers of a machine on these objects are those of its specification, or `None` if memory runs
+/// out.
 fn all_agree_on<'a, A: Allocator + Copy>(
     heap: A,
     machine: &mut Machine<'a, '_, A>,
@@ -64,7 +65,7 @@ fn all_agree_on<'a, A: Allocator + Copy>(
     Some(true)
 }
 
-/// Whether code answers what its specification does, on each of these objects.
+/// Returns whether the answers of code on these objects are those of its specification, or `None` if memory runs out.
 fn code_agrees<A: Allocator + Copy>(
     heap: A,
     code: &Verified<A>,
@@ -77,8 +78,8 @@ fn code_agrees<A: Allocator + Copy>(
     agree
 }
 
-/// Whether the code of a specification answers what the specification does, on each of these objects; none for want of
-/// memory.
+/// Returns whether the answers of a specification's code on these objects are those of the specification, or `None` if
+/// memory runs out.
 pub fn agrees<A: Allocator + Copy>(
     heap: A,
     specification: &Spec<A>,
@@ -92,7 +93,7 @@ pub fn agrees<A: Allocator + Copy>(
     agree
 }
 
-/// Puts the answer of a specification on an object behind others, where there is one; false for want of memory.
+/// Appends the answer of a specification on an object, if there is one; returns `false` if memory runs out.
 fn put_meant<A: Allocator + Copy>(
     heap: A,
     spec: &Spec<A>,
@@ -108,7 +109,8 @@ fn put_meant<A: Allocator + Copy>(
     }
 }
 
-/// The answers of a specification on objects, with memory from `heap`.
+/// Returns the text of the answers of a specification on objects, with memory from `heap`, or `None` if memory runs
+/// out.
 fn answers<A: Allocator + Copy>(
     alloc: Global,
     heap: A,
@@ -129,7 +131,8 @@ fn answers<A: Allocator + Copy>(
     text
 }
 
-/// The answers of the specification that a term is read as, where its code has the same.
+/// Returns the text of the answers of the specification that a term is read as; `code_differs` if its code gives other
+/// answers. Returns `None` if the term is no specification or memory runs out.
 pub fn answers_of<A: Allocator + Copy>(
     alloc: Global,
     heap: A,
@@ -148,7 +151,7 @@ pub fn answers_of<A: Allocator + Copy>(
     text
 }
 
-/// The answers of the first of these terms on those behind it.
+/// Returns the text of the answers of the first of these terms, a specification, on the others.
 fn answers_of_terms<A: Allocator + Copy>(
     alloc: Global,
     heap: A,
@@ -158,7 +161,7 @@ fn answers_of_terms<A: Allocator + Copy>(
     answers_of(alloc, heap, specification, objects)
 }
 
-/// The answers of the first term of a text on those behind it.
+/// Returns the text of the answers of the first term of a text, a specification, on its other terms.
 pub fn answers_of_text<A: Allocator + Copy>(
     alloc: Global,
     heap: A,

@@ -1,10 +1,10 @@
 //! Code in a row: `{code,Slots,[Constant],[Instruction],[Frame]}`, and with routines
-//! `{code,Slots,[Constant],[Instruction],[Frame],[Routine]}`, where `{Count,Constant}` in place of the list of constants
-//! stands for so many of one.
+//! `{code,Slots,[Constant],[Instruction],[Frame],[Routine]}`. Instead of the list of constants, `{Count,Constant}`
+//! means that many times the same constant.
 //!
 //! A routine is `{routine,[Kind],Kind,Slots,[Instruction],[Frame]}`: the kinds of its arguments, of which the first is
-//! the lowest, and of what it gives, and then its own parts. Among kinds `{Count,Kind}` stands for so many of one, among
-//! routines `{Count,[Routine]}` for so many times the same.
+//! the lowest on the stack, the kind of its result, and then its own parts. Among kinds, `{Count,Kind}` means that many
+//! times one kind; among routines, `{Count,[Routine]}` means that these are repeated `Count` times.
 use crate::frame::{frames, kind};
 use crate::instr::instructions;
 use kit_rows::{elements, fields, is_atom, number, put_copy, short};
@@ -13,13 +13,13 @@ use std::alloc::Allocator;
 use term_build::copy_all;
 use term_core::Term;
 
-/// How many fields a term has that says code without routines.
+/// The number of fields of a term that describes code without routines.
 const FIELDS: usize = 5;
 
 /// The parts of a body.
 #[derive(Drop)]
 pub struct BodyParts<A: Allocator> {
-    /// How many slots there are.
+    /// The number of slots.
     pub slots: u16,
     /// The instructions.
     pub instructions: Vec<Instr, A>,
@@ -32,9 +32,9 @@ pub struct BodyParts<A: Allocator> {
 pub struct RoutineParts<A: Allocator> {
     /// The kinds of the arguments, the lowest first.
     pub arguments: Vec<Kind, A>,
-    /// The kind of what the routine gives.
+    /// The kind of the routine's result.
     pub gives: Kind,
-    /// Its own parts.
+    /// The routine's own parts.
     pub body: BodyParts<A>,
 }
 
@@ -43,13 +43,13 @@ pub struct RoutineParts<A: Allocator> {
 pub struct Parts<A: Allocator> {
     /// The constants.
     pub constants: Vec<Term<A>, A>,
-    /// Those of the main body.
+    /// The parts of the main body.
     pub main: BodyParts<A>,
-    /// Those of the routines.
+    /// The parts of the routines.
     pub routines: Vec<RoutineParts<A>, A>,
 }
 
-/// So many times a constant.
+/// Returns `count` copies of a constant.
 fn repeated<A: Allocator + Copy>(
     heap: A,
     count: u32,
@@ -63,7 +63,7 @@ fn repeated<A: Allocator + Copy>(
     is_whole.then_some(out)
 }
 
-/// The constants that a term says.
+/// Returns the constants that a term describes.
 fn constants<A: Allocator + Copy>(heap: A, term: &Term<A>) -> Option<Vec<Term<A>, A>> {
     match fields(term) {
         Some([count, constant]) => repeated(heap, number(count)?, constant),
@@ -71,7 +71,7 @@ fn constants<A: Allocator + Copy>(heap: A, term: &Term<A>) -> Option<Vec<Term<A>
     }
 }
 
-/// The body of a number that these terms say.
+/// Returns the body with number `own` that these terms describe.
 fn body<A: Allocator + Copy>(
     heap: A,
     own: u16,
@@ -89,7 +89,7 @@ fn body<A: Allocator + Copy>(
     })
 }
 
-/// Adds so many kinds.
+/// Appends a kind `count` times.
 fn push_repeated_kind<A: Allocator>(
     out: &mut Vec<Kind, A>,
     count: u32,
@@ -101,7 +101,7 @@ fn push_repeated_kind<A: Allocator>(
     Some(())
 }
 
-/// Adds what a member of a list of kinds says.
+/// Appends the kinds that a member of a list describes.
 fn push_kind<A: Allocator>(out: &mut Vec<Kind, A>, member: &Term<A>) -> Option<()> {
     if let Some([count, unit]) = fields(member)
         && let Some(count) = number(count)
@@ -111,7 +111,7 @@ fn push_kind<A: Allocator>(out: &mut Vec<Kind, A>, member: &Term<A>) -> Option<(
     out.push(kind(member)?).ok()
 }
 
-/// The kinds that a list says.
+/// Returns the kinds that a list describes.
 fn kinds<A: Allocator + Copy>(heap: A, list: &Term<A>) -> Option<Vec<Kind, A>> {
     let mut out = Vec::new(heap);
     for member in elements(list)? {
@@ -120,7 +120,7 @@ fn kinds<A: Allocator + Copy>(heap: A, list: &Term<A>) -> Option<Vec<Kind, A>> {
     Some(out)
 }
 
-/// The routine of a number that these fields say.
+/// Returns the routine with number `own` that these fields describe.
 fn routine<A: Allocator + Copy>(heap: A, own: u16, said: &[Term<A>]) -> Option<RoutineParts<A>> {
     let [word, arguments, gives, slots, listed, framed] = said else {
         return None;
@@ -138,7 +138,7 @@ fn routine<A: Allocator + Copy>(heap: A, own: u16, said: &[Term<A>]) -> Option<R
     })
 }
 
-/// Adds the routine that these fields say.
+/// Appends the routine that these fields describe.
 fn push_routine<A: Allocator + Copy>(
     heap: A,
     out: &mut Vec<RoutineParts<A>, A>,
@@ -148,7 +148,7 @@ fn push_routine<A: Allocator + Copy>(
     out.push(routine(heap, own, said)?).ok()
 }
 
-/// Adds each of these routines.
+/// Appends each of these routines.
 fn push_each<A: Allocator + Copy>(
     heap: A,
     out: &mut Vec<RoutineParts<A>, A>,
@@ -160,7 +160,7 @@ fn push_each<A: Allocator + Copy>(
     Some(())
 }
 
-/// Adds these routines so many times.
+/// Appends these routines `count` times.
 fn push_repeated<A: Allocator + Copy>(
     heap: A,
     out: &mut Vec<RoutineParts<A>, A>,
@@ -173,7 +173,7 @@ fn push_repeated<A: Allocator + Copy>(
     Some(())
 }
 
-/// Adds what a member of a list of routines says.
+/// Appends the routines that a member of a list describes.
 fn push_member<A: Allocator + Copy>(
     heap: A,
     out: &mut Vec<RoutineParts<A>, A>,
@@ -185,7 +185,7 @@ fn push_member<A: Allocator + Copy>(
     }
 }
 
-/// Adds what the members of a list of routines say.
+/// Appends the routines that the members of a list describe.
 fn push_members<A: Allocator + Copy>(
     heap: A,
     out: &mut Vec<RoutineParts<A>, A>,
@@ -197,7 +197,7 @@ fn push_members<A: Allocator + Copy>(
     Some(())
 }
 
-/// The routines that these terms say.
+/// Returns the routines that these terms describe.
 fn routines<A: Allocator + Copy>(heap: A, members: &[Term<A>]) -> Option<Vec<RoutineParts<A>, A>> {
     let mut out = Vec::new(heap);
     match push_members(heap, &mut out, members) {
@@ -209,7 +209,7 @@ fn routines<A: Allocator + Copy>(heap: A, members: &[Term<A>]) -> Option<Vec<Rou
     }
 }
 
-/// The parts of code that these fields say, with these routines.
+/// Returns the parts of code that these fields describe, with these routines.
 fn parts_with<A: Allocator + Copy>(
     heap: A,
     said: &[Term<A>],
@@ -233,7 +233,7 @@ fn parts_with<A: Allocator + Copy>(
     })
 }
 
-/// The parts of code that a term says.
+/// Returns the parts of code that a term describes, or `None`.
 pub fn parts_of<A: Allocator + Copy>(heap: A, term: &Term<A>) -> Option<Parts<A>> {
     let said = fields(term)?;
     if said.len() == FIELDS {

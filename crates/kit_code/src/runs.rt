@@ -1,4 +1,4 @@
-//! What code answers on objects.
+//! The answers of code on objects.
 use crate::codes::CodeTerms;
 use kit_rows::{Outcome, elements, is_atom, text, word};
 use machine::{Machine, run, run_true};
@@ -7,7 +7,7 @@ use term_core::Term;
 use term_text::read_terms;
 use verifier::Verified;
 
-/// The text of an answer and of the number of instructions that were executed.
+/// Returns the text of an answer and of the number of instructions that were executed.
 fn answer_text(alloc: Global, answer: Option<&Term>, executed: u32) -> Option<Vec<u8>> {
     let out = Outcome::tuple(alloc);
     let out = match answer {
@@ -17,7 +17,7 @@ fn answer_text(alloc: Global, answer: Option<&Term>, executed: u32) -> Option<Ve
     out.number(executed as usize).end()
 }
 
-/// Whether an answer is the atom `true`.
+/// Returns whether an answer is the atom `true`.
 pub fn is_true(answer: Option<&Term>) -> bool {
     match answer {
         Some(answer) => is_atom(answer, "true"),
@@ -25,7 +25,7 @@ pub fn is_true(answer: Option<&Term>) -> bool {
     }
 }
 
-/// The text of what `run` gave, with which what `run_true` gave has to agree.
+/// Returns the text of the result of `run`, or `run_true_differs` if the result of `run_true` does not agree with it.
 fn outcome(
     alloc: Global,
     answer: Option<&Term>,
@@ -39,7 +39,7 @@ fn outcome(
     }
 }
 
-/// The answer of verified code on an object.
+/// Returns the text of the answer of verified code on an object, or `None` if memory runs out.
 fn ran(alloc: Global, code: &Verified, object: &Term) -> Option<Vec<u8>> {
     let tested = run_true(alloc, code, object).ok()?;
     let Ok((answer, executed)) = run(alloc, code, object) else {
@@ -50,7 +50,7 @@ fn ran(alloc: Global, code: &Verified, object: &Term) -> Option<Vec<u8>> {
     text
 }
 
-/// The answer of a machine on an object.
+/// Returns the text of the answer of a machine on an object, or `None` if memory runs out.
 fn ran_by<'a>(alloc: Global, machine: &mut Machine<'a, '_>, object: &'a Term) -> Option<Vec<u8>> {
     let tested = machine.run_true(object).ok()?;
     let Ok((answer, executed)) = machine.run(object) else {
@@ -61,7 +61,7 @@ fn ran_by<'a>(alloc: Global, machine: &mut Machine<'a, '_>, object: &'a Term) ->
     text
 }
 
-/// Puts the answer of a machine on an object at the end.
+/// Appends the text of the answer of a machine on an object.
 fn with_ran_by<'a>(
     alloc: Global,
     out: Outcome,
@@ -74,7 +74,7 @@ fn with_ran_by<'a>(
     }
 }
 
-/// The answers of one machine on these objects, one after the other.
+/// Returns the texts of the answers of one machine on these objects, one after the other.
 pub fn ran_each(alloc: Global, code: &Verified, objects: &[Term]) -> Option<Vec<u8>> {
     let mut machine = Machine::new(&alloc, code).ok()?;
     let mut out = Outcome::list(alloc);
@@ -85,7 +85,7 @@ pub fn ran_each(alloc: Global, code: &Verified, objects: &[Term]) -> Option<Vec<
     out.end()
 }
 
-/// The answer of the code that a term says.
+/// Returns the text of the answer on an object of the code that a term describes.
 fn ran_code<C: CodeTerms>(alloc: Global, code: &Term, object: &Term) -> Option<Vec<u8>> {
     let code = C::verified_of(alloc, code)?;
     let text = ran(alloc, &code, object);
@@ -93,7 +93,7 @@ fn ran_code<C: CodeTerms>(alloc: Global, code: &Term, object: &Term) -> Option<V
     text
 }
 
-/// The answers of the code on each of a list of objects, by one machine.
+/// Returns the texts of the answers of one machine, of the code that a term describes, on each of a list of objects.
 fn ran_code_on_each<C: CodeTerms>(alloc: Global, code: &Term, objects: &Term) -> Option<Vec<u8>> {
     let objects = elements(objects)?;
     let code = C::verified_of(alloc, code)?;
@@ -102,7 +102,7 @@ fn ran_code_on_each<C: CodeTerms>(alloc: Global, code: &Term, objects: &Term) ->
     text
 }
 
-/// The answer of the code on the first term of a text.
+/// Returns the text of the answer, on the first term of a text, of the code that a term describes.
 fn ran_on_text<C: CodeTerms>(alloc: Global, code: &Term, given: &Term) -> Option<Vec<u8>> {
     let given = text(alloc, given)?;
     let Ok(objects) = read_terms(alloc, given.as_slice()) else {
@@ -116,7 +116,7 @@ fn ran_on_text<C: CodeTerms>(alloc: Global, code: &Term, given: &Term) -> Option
     text
 }
 
-/// What comes of a row of runs.
+/// Returns the result of a row of runs, or `None` if there is no such row.
 pub fn came<C: CodeTerms>(alloc: Global, kind: &str, parts: &[Term]) -> Option<Vec<u8>> {
     match (kind, parts) {
         ("run", [code, object, _]) => ran_code::<C>(alloc, code, object),

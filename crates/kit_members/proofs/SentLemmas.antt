@@ -1,4 +1,4 @@
--- A plain or a hashed part may be sent to other threads where its memory is that of a lent allocator which may refuse.
+-- A plain or a hashed part can be sent to other threads if its allocator is a borrowed `Failing` one.
 use mir.Syntax.{Dict, Lifetime}
 use base.Fml.{Lft}
 use denote.RattleType.{RattleType}
@@ -38,11 +38,11 @@ lent_send ℓ κ = search (sendable, failing_sync)
 lent_sync : (ℓ : Lifetime) (κ : Lft) → IsSync (ShrRef ℓ κ (failing_row Heap.the_row))
 lent_sync ℓ κ = search (sendable, failing_sync)
 
--- a block goes back to what is lent
+-- a block can be freed in any thread through a borrowed allocator
 lent_frees : (A : RattleType) (g : Ghosts A.Denot) (d e : Dict) → Frees g g.dealloc_token → Frees (lent_ghosts A g d e) (lent_ghosts A g d e).dealloc_token
 lent_frees A g d e f = record { frees = λ r. f.frees r.now }
 
--- the rows of a hashed part, over any allocator
+-- the rows of a hashed part can be sent, over any allocator that can
 module _ (A : RattleType) (g : Ghosts A.Denot) (s : IsSend A) (y : IsSync A) (f : Frees g g.dealloc_token) where
   row_send : IsSend (hash_row A g)
   row_send = search (sendable, crosses, term_send) depth 40
@@ -62,7 +62,7 @@ module _ (A : RattleType) (g : Ghosts A.Denot) (s : IsSend A) (y : IsSync A) (f 
   hash_rows_send : IsSend (hash_rows A g)
   hash_rows_send = search (sendable, store_send) depth 40
 
--- rows and part hold the allocator for a lifetime each
+-- rows and part borrow the allocator, for a lifetime each
 module _ (ℓ ℓ' : Lifetime) (κ κ' : Lft) (d e f h : Dict) where
   abbrev Lent : Lifetime → Lft → RattleType
   Lent m ν = ShrRef m ν (failing_row Heap.the_row)

@@ -1,4 +1,4 @@
--- Sessions that were opened, each by itself, and members that are of one table.
+-- Sessions that were opened, and members of one table.
 use Rattle.std.proofs.Common.{◌≡◌, List, [], ◌∷◌, map, sym, ◌∙◌}
 use Rattle.std.specs.Prelude.{All}
 use Rattle.std.proofs.lemmas.List.Elements.{All-map, All-weaker, All-head, All-tail}
@@ -10,12 +10,12 @@ use Rattle.tables.specs.Sessions.{IsOpened}
 use Rattle.tables.specs.Turns.{Home}
 use Rattle.parallel_select.specs.Workers.{AreOfOneTable}
 
--- each of the sessions that were opened with a table
+-- each session of a list is opened with the table
 pub each_opened : {P A : Type 0} (o : Options) (gates : _) (sessions : List (Session P A))
     → AllOpened o gates sessions → All (λ (s : Session P A). IsOpened o gates s.number s.passes.items) sessions
 each_opened o gates sessions opened = λ k d within. opened k _ (slice_get-get_or sessions k d within)
 
--- members that are each of this table
+-- members of which each has this table's options and gates
 pub of_one_table : {X : Type 0} (home : X → Home) (o : Options) (gates : _) (xs : List X)
     → All (λ x. ((home x).options ≡ o) × ((home x).gates ≡ gates)) xs → AreOfOneTable (map home xs)
 of_one_table home o gates [] all = tt

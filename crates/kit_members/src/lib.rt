@@ -1,13 +1,13 @@
-//! Sessions of a table as members of a selection, for tests and for programs that time or judge, and what tests of
+//! Sessions of a table as members of a selection, for tests and for programs that measure or compare, and what tests of
 //! several threads share.
 //!
-//! The contracts: `members_of` gives turns of sessions that were opened with one table, in their order, as
-//! `parallel_select` asks for members (`AreMembers` of `specs/Members.antt`), and each other call at sessions leaves
-//! them as they may be asked again. A part whose memory a test refuses may be sent to other threads.
+//! The contracts: `members_of` returns turns of sessions that were opened with one table, in their order, as
+//! `parallel_select` requires of members (`AreMembers` of `specs/Members.antt`). Every other call at sessions leaves
+//! them able to make turns again. A part whose allocations a test makes fail can be sent to other threads.
 //!
-//! - `members`: the turns of sessions; `objects`: those that a session puts in, and tables that are opened with them.
+//! - `members`: the turns of sessions; `objects`: objects that a session inserts, and tables that are opened with them.
 //! - `selecting`: queries by members, or by one session.
-//! - `flags`: flags that are raised on one thread and looked for on another; `sending`: parts that may be sent.
+//! - `flags`: flags that are set in one thread and checked in another; `sending`: parts that can be sent.
 #![tactic(auto)]
 
 mod flags;

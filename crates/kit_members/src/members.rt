@@ -8,7 +8,7 @@ use std::alloc::{Allocator, Global};
 use std::sync::Wait;
 use tables::{At, Session, Table};
 
-/// Puts the turns of a session behind those of others.
+/// Appends the turns of a session.
 fn put_one<'t, R: Wait, A: Allocator + Copy, P: Part<A> + Drop>(
     rt: &'t R,
     table: &'t Table<P, A>,
@@ -23,7 +23,7 @@ fn put_one<'t, R: Wait, A: Allocator + Copy, P: Part<A> + Drop>(
     members.push(table.at(rt, session)).ok()
 }
 
-/// Puts the turns of sessions behind those of others.
+/// Appends the turns of sessions.
 fn put_all<'t, R: Wait, A: Allocator + Copy, P: Part<A> + Drop>(
     rt: &'t R,
     table: &'t Table<P, A>,
@@ -44,7 +44,8 @@ fn put_all<'t, R: Wait, A: Allocator + Copy, P: Part<A> + Drop>(
     }
 }
 
-/// The turns of sessions that were opened with a table, in the order of the sessions; none for want of memory.
+/// Returns the turns of sessions that were opened with a table, in the order of the sessions, or `None` if memory runs
+/// out.
 pub fn members_of<'t, R: Wait, A: Allocator + Copy, P: Part<A> + Drop>(
     rt: &'t R,
     alloc: Global,

@@ -1,4 +1,4 @@
-//! Objects that a session puts into its table.
+//! Objects that a session inserts into its table.
 ghost use Rattle.std.specs.Prelude.{◌≡◌, All, IfSome};
 ghost use Rattle.tables.specs.Sessions.{IsOpened};
 
@@ -8,7 +8,8 @@ use std::sync::Wait;
 use tables::{Options, Session, Table, Turns, insert};
 use term_core::Term;
 
-/// Puts objects into a table; none for want of memory, or for a term that is no object.
+/// Inserts objects into a table. Returns `None` if memory runs out or a term is no object; those before it stay
+/// inserted.
 pub fn put_all<A: Allocator + Copy, T: Turns<A>>(turns: &mut T, objects: &[Term<A>]) -> Option<()>
     requires { T.is_ready turns.old }
     ensures ready { T.is_ready turns.new }
@@ -20,7 +21,8 @@ pub fn put_all<A: Allocator + Copy, T: Turns<A>>(turns: &mut T, objects: &[Term<
     Some(())
 }
 
-/// The session, once it has put objects into its table; none for want of memory.
+/// Returns the session once it has inserted objects into its table, or `None` if memory runs out or a term is no
+/// object.
 pub fn filled<R: Wait, A: Allocator + Copy, P: Part<A> + Drop>(
     rt: &R,
     table: &Table<P, A>,
@@ -41,7 +43,8 @@ pub fn filled<R: Wait, A: Allocator + Copy, P: Part<A> + Drop>(
     }
 }
 
-/// A table with objects, all its sessions but the last, and the last.
+/// Opens a table and has its last session insert these objects. Returns the table, all its sessions but the last, and
+/// the last.
 pub fn opened<R: Wait, A: Allocator + Copy, P: Part<A> + Drop>(
     rt: &R,
     alloc: A,

@@ -1,4 +1,4 @@
-//! Queries of a session over its whole table: by members of a selection, where it has any, else by itself.
+//! Queries of a session over its whole table: by members of a selection if it has any, else by the session alone.
 ghost use Rattle.std.specs.Prelude.{◌≡◌};
 ghost use Rattle.kit_members.specs.Members.{AreMembers};
 
@@ -10,7 +10,7 @@ use tables::Turns;
 use term_core::Term;
 use walks::{Query, select, select_count, select_delete};
 
-/// What a query answers; none for want of memory.
+/// Returns the answers of a query, or `None` if memory runs out.
 pub fn selected<R: Threads + Wait + Sync, T: Turns<Global>, M: Turns<Global> + Send>(
     rt: &R,
     alloc: Global,
@@ -31,7 +31,7 @@ pub fn selected<R: Threads + Wait + Sync, T: Turns<Global>, M: Turns<Global> + S
     }
 }
 
-/// How many objects answer true; none for want of memory.
+/// Returns the number of objects for which the answer is true, or `None` if memory runs out.
 pub fn counted<R: Threads + Wait + Sync, T: Turns<Global>, M: Turns<Global> + Send>(
     rt: &R,
     turns: &mut T,
@@ -51,7 +51,7 @@ pub fn counted<R: Threads + Wait + Sync, T: Turns<Global>, M: Turns<Global> + Se
     }
 }
 
-/// Deletes them, and tells how many there were; none for want of memory.
+/// Deletes the objects for which the answer is true, and returns their number, or `None` if memory runs out.
 pub fn deleted<R: Threads + Wait + Sync, T: Turns<Global>, M: Turns<Global> + Send>(
     rt: &R,
     turns: &mut T,

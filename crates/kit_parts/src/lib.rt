@@ -1,15 +1,16 @@
-//! Steps of rows of tests at a part of a table: a part that is made for a row, and what comes of each step at it, as a
+//! Steps of rows of tests at a part of a table: a part that is made for a row, and the result of each step at it, as a
 //! text.
 //!
-//! All is generic in the part and in the allocator, so that a test may try each part, and refuse memory meanwhile.
+//! Everything is generic in the part and in the allocator, so that a test may try each sort of part, and make
+//! allocations fail meanwhile.
 //!
-//! The one contract: a part that is `made` has the sessions of its options, and `steps_text` wants a part with those of
-//! its setting.
+//! The contract: a part that is `made` has the number of sessions of its options, and `steps_text` needs a part with
+//! the number of sessions of its setting.
 //!
-//! - `steps`: the steps of a row, one after the other; `turns`: one operation, which is handed back where it is
-//!   refused.
-//! - `watching`: the same at a part that is looked at, which has to be as it was where it refuses.
-//! - `operations`: an operation that a term says; `replies`: what a part answers, as a text.
+//! - `steps`: the steps of a row, one after the other; `turns`: one operation, which is tried again if it is rejected.
+//! - `watching`: operations at a part that is compared before and after: it has to be unchanged if an operation is
+//!   rejected.
+//! - `operations`: the operation that a term describes; `replies`: what a part returns, as a text.
 #![tactic(auto)]
 
 mod operations;

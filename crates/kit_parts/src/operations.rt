@@ -1,4 +1,4 @@
-//! Operations that terms say.
+//! Operations that terms describe.
 ghost use Rattle.std.specs.Prelude.{◌<◌, IfSome};
 ghost use Rattle.part_core.specs.Acts.{IsAsked};
 ghost use Rattle.part_core.specs.Ops.{act_of};
@@ -11,7 +11,7 @@ use std::alloc::Allocator;
 use term_core::{Term, View};
 use verifier::Verified;
 
-/// The kind of a table that a term names.
+/// Returns the kind of table that a term names, or `None`.
 pub fn kind_of<A: Allocator>(term: &Term<A>) -> Option<TableKind> {
     for kind in [
         TableKind::Set,
@@ -26,7 +26,7 @@ pub fn kind_of<A: Allocator>(term: &Term<A>) -> Option<TableKind> {
     None
 }
 
-/// The name of a kind of a table.
+/// Returns the name of a kind of table.
 const fn kind_name(kind: TableKind) -> &'static str {
     match kind {
         TableKind::Set => "set",
@@ -55,7 +55,7 @@ const NAMES: [&str; 15] = [
     "visit_delete",
 ];
 
-/// The name, of some, that a term is.
+/// Returns the one of these names that a term is, or `None`.
 fn name_among<A: Allocator>(term: &Term<A>, names: &[&'static str]) -> Option<&'static str> {
     for name in names {
         if is_atom(term, name) {
@@ -65,17 +65,17 @@ fn name_among<A: Allocator>(term: &Term<A>, names: &[&'static str]) -> Option<&'
     None
 }
 
-/// The name of an operation that a term is.
+/// Returns the name of an operation that a term is, or `None`.
 pub(crate) fn name_of<A: Allocator>(term: &Term<A>) -> Option<&'static str> {
     name_among(term, &NAMES)
 }
 
-/// The number of at most 8 bits that a term is.
+/// Returns the value of an integer from 0 to 255, or `None` for any other term.
 pub fn byte<A: Allocator>(term: &Term<A>) -> Option<u8> {
     u8::try_from(number(term)?).ok()
 }
 
-/// The number of answers that a term wants, at least 1.
+/// Returns the number of answers that a term requests, at least 1, or `None`.
 pub(crate) fn wanted_of<A: Allocator>(term: &Term<A>) -> Option<u64>
     ensures { IfSome result (λ wanted. 0 < wanted) }
 {
@@ -86,7 +86,7 @@ pub(crate) fn wanted_of<A: Allocator>(term: &Term<A>) -> Option<u64>
     if wanted == 0 { None } else { Some(wanted) }
 }
 
-/// The code of the specification that a term is.
+/// Returns the code of the specification that a term is, or `None` if it is none or memory runs out.
 pub(crate) fn code_of<A: Allocator + Copy>(heap: A, term: &Term<A>) -> Option<Verified<A>> {
     let Ok(specification) = read_spec(heap, term) else {
         return None;
@@ -96,30 +96,30 @@ pub(crate) fn code_of<A: Allocator + Copy>(heap: A, term: &Term<A>) -> Option<Ve
     code
 }
 
-/// The cursor at a class.
+/// Returns the cursor at this class.
 fn cursor_at<A: Allocator>(base: &Term<A>, class: &Term<A>) -> Option<Cursor<A>> {
     let (base, class) = (number(base)?, number(class)?);
     Some(Cursor::Class { base, class })
 }
 
-/// The cursor behind a key.
-fn cursor_behind<A: Allocator + Copy>(key: &Term<A>) -> Option<Cursor<A>> {
+/// Returns the cursor after this key, or `None` if memory runs out.
+fn cursor_after<A: Allocator + Copy>(key: &Term<A>) -> Option<Cursor<A>> {
     match key.copy() {
         Ok(key) => Some(Cursor::Behind(key)),
         Err(_) => None,
     }
 }
 
-/// The cursor that a term says: `{class,Base,Class}` or `{behind,Key}`.
+/// Returns the cursor that a term describes: `{class,Base,Class}` or `{behind,Key}`.
 pub(crate) fn cursor_of<A: Allocator + Copy>(term: &Term<A>) -> Option<Cursor<A>> {
     match fields(term)? {
         [tag, base, class] if is_atom(tag, "class") => cursor_at(base, class),
-        [tag, key] if is_atom(tag, "behind") => cursor_behind(key),
+        [tag, key] if is_atom(tag, "behind") => cursor_after(key),
         _ => None,
     }
 }
 
-/// The key of a term `{named,Key}`.
+/// Returns the key of a term `{named,Key}`, or `None` for any other term.
 fn named_key<A: Allocator>(term: &Term<A>) -> Option<&Term<A>> {
     match fields(term)? {
         [tag, key] if is_atom(tag, "named") => Some(key),
@@ -127,7 +127,8 @@ fn named_key<A: Allocator>(term: &Term<A>) -> Option<&Term<A>> {
     }
 }
 
-/// The scope that a term says: `begin`, a key, or what is behind the cursor that it says.
+/// Returns the scope that a term describes: `begin`, `{named,Key}`, or what follows the cursor, which the term was read
+/// as.
 pub(crate) fn scope_of<'t, A: Allocator>(
     term: &'t Term<A>,
     cursor: Option<&'t Cursor<A>>,
@@ -141,7 +142,7 @@ pub(crate) fn scope_of<'t, A: Allocator>(
     }
 }
 
-/// The operation of a name that needs nothing else.
+/// Returns the operation with this name, if it is one that needs nothing else.
 pub(crate) fn bare<'a, A: Allocator>(name: &str) -> Option<PartOp<'a, A>>
     ensures { IfSome result (λ op. IsAsked (act_of op)) }
 {
@@ -154,7 +155,8 @@ pub(crate) fn bare<'a, A: Allocator>(name: &str) -> Option<PartOp<'a, A>>
     }
 }
 
-/// The operation of a name that puts an object in.
+/// Returns the operation `insert`, or `insert_new` for any other name, of a copy of the object. Returns `None` if
+/// memory runs out.
 fn inserted<'a, A: Allocator + Copy>(name: &str, object: &'a Term<A>) -> Option<PartOp<'a, A>>
     ensures { IfSome result (λ op. IsAsked (act_of op)) }
 {
@@ -166,7 +168,7 @@ fn inserted<'a, A: Allocator + Copy>(name: &str, object: &'a Term<A>) -> Option<
     }
 }
 
-/// The operation of a name on an object or a key.
+/// Returns the operation with this name on an object or a key, or `None`.
 pub(crate) fn keyed<'a, A: Allocator + Copy>(
     name: &str,
     operand: &'a Term<A>,
@@ -185,7 +187,7 @@ pub(crate) fn keyed<'a, A: Allocator + Copy>(
     }
 }
 
-/// The visit of a name.
+/// Returns the visit with this name, or `None`.
 pub(crate) fn visit<'a, A: Allocator>(
     name: &str,
     code: &'a Verified<A>,

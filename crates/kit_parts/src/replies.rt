@@ -1,14 +1,14 @@
-//! What a part answers, as a text.
+//! What a part returns, as a text.
 use crate::turns::{Turn, Wants, objects};
 use kit_rows::{Outcome, listed, numbered, tagged, truth_name, word};
 use part_core::{Cursor, Fault, OpenFault, Part, Reply};
 use std::alloc::{Allocator, Global};
 use term_core::Term;
 
-/// What stands where a walk has ended.
+/// The text of the end of a walk or of the keys.
 const END: &str = "'end'";
 
-/// The text of a cursor.
+/// Returns the text of a cursor: `{class,Base,Class}` or `{behind,Key}`.
 fn cursor_text<A: Allocator>(alloc: Global, cursor: &Cursor<A>) -> Option<Vec<u8>> {
     match cursor {
         Cursor::Class { base, class } => {
@@ -19,7 +19,7 @@ fn cursor_text<A: Allocator>(alloc: Global, cursor: &Cursor<A>) -> Option<Vec<u8
     }
 }
 
-/// The text of where a walk goes on.
+/// Returns the text of where a walk goes on: a cursor or the end.
 fn next_text<A: Allocator>(alloc: Global, next: Option<&Cursor<A>>) -> Option<Vec<u8>> {
     match next {
         Some(cursor) => cursor_text(alloc, cursor),
@@ -27,13 +27,13 @@ fn next_text<A: Allocator>(alloc: Global, next: Option<&Cursor<A>>) -> Option<Ve
     }
 }
 
-/// The text of some objects.
+/// Returns the text of `{objects,[Object]}`.
 fn objects_text<A: Allocator>(alloc: Global, objects: &[Term<A>]) -> Option<Vec<u8>> {
     let out = Outcome::tuple(alloc).word("objects");
     out.part(listed(alloc, objects)).end()
 }
 
-/// The text of all objects of a part.
+/// Returns the text of all objects of a part, or `None` if memory runs out.
 pub(crate) fn all_objects<A: Allocator + Copy, P: Part<A>>(
     alloc: Global,
     heap: A,
@@ -46,7 +46,7 @@ pub(crate) fn all_objects<A: Allocator + Copy, P: Part<A>>(
     text
 }
 
-/// The text of what a visit found.
+/// Returns the text of the answers that a visit found, and of where the walk goes on.
 fn found_text<A: Allocator>(
     alloc: Global,
     answers: &[Term<A>],
@@ -57,7 +57,7 @@ fn found_text<A: Allocator>(
     out.part(next_text(alloc, next)).end()
 }
 
-/// The text of how many a visit counted or deleted.
+/// Returns the text of how many objects a visit counted or deleted, and of where the walk goes on.
 fn counted_text<A: Allocator>(
     alloc: Global,
     count: u64,
@@ -68,7 +68,7 @@ fn counted_text<A: Allocator>(
     out.part(next_text(alloc, next)).end()
 }
 
-/// The text of a key, or of the end.
+/// Returns the text of a key, or of the end.
 fn key_text<A: Allocator>(alloc: Global, key: Option<&Term<A>>) -> Option<Vec<u8>> {
     match key {
         Some(key) => tagged(alloc, "at", key),
@@ -76,7 +76,7 @@ fn key_text<A: Allocator>(alloc: Global, key: Option<&Term<A>>) -> Option<Vec<u8
     }
 }
 
-/// The text of a reply.
+/// Returns the text of a reply.
 pub(crate) fn reply_text<A: Allocator>(alloc: Global, reply: &Reply<A>) -> Option<Vec<u8>> {
     match reply {
         Reply::Done => word(alloc, "done"),
@@ -88,7 +88,7 @@ pub(crate) fn reply_text<A: Allocator>(alloc: Global, reply: &Reply<A>) -> Optio
     }
 }
 
-/// The text of what an operation is answered.
+/// Returns the text of the result of an operation: a reply or an error code.
 pub(crate) fn answer_text<A: Allocator>(
     alloc: Global,
     answer: &Result<Reply<A>, Fault>,
@@ -99,7 +99,8 @@ pub(crate) fn answer_text<A: Allocator>(
     }
 }
 
-/// The text of why a part isn't made; none where a request for memory may be refused, and it was wanted again.
+/// Returns the text of why a part was not made. Returns `None` if memory ran out and allocations may fail, which is
+/// then counted.
 pub fn open_fault_text(alloc: Global, fault: OpenFault, wants: &Wants) -> Option<Vec<u8>> {
     if fault == OpenFault::Memory && wants.note() {
         return None;

@@ -15,7 +15,7 @@ use std::alloc::{Allocator, Global};
 use term_core::Term;
 use verifier::Verified;
 
-/// What comes of an operation; none where it wants memory again and again.
+/// Returns the text of the result of an operation, or `None` if it runs out of memory each time.
 fn came_of<'w, 'a, A: Allocator + Copy, P: Part<A>>(
     alloc: Global,
     heap: A,
@@ -47,7 +47,7 @@ fn came_of<'w, 'a, A: Allocator + Copy, P: Part<A>>(
     }
 }
 
-/// What comes of a visit by code, in a scope.
+/// Returns the text of the result of the visit with this name by code, in a scope.
 fn visited_in<'w, 'a, A: Allocator + Copy, P: Part<A>>(
     alloc: Global,
     heap: A,
@@ -65,7 +65,7 @@ fn visited_in<'w, 'a, A: Allocator + Copy, P: Part<A>>(
     came_of(alloc, heap, part, turn, visit(name, code, scope, wanted)?)
 }
 
-/// What comes of a visit by the code of a specification.
+/// Returns the text of the result of the visit with this name by the code of a specification, in a scope.
 fn visited_by<A: Allocator + Copy, P: Part<A>>(
     alloc: Global,
     heap: A,
@@ -86,7 +86,8 @@ fn visited_by<A: Allocator + Copy, P: Part<A>>(
     came
 }
 
-/// What comes of a visit that a term says: its name, a specification, a place and the number of answers that is wanted.
+/// Returns the text of the result of the visit that a term describes: its name, a specification, a place and the number
+/// of answers requested.
 fn visited<A: Allocator + Copy, P: Part<A>>(
     alloc: Global,
     heap: A,
@@ -111,7 +112,7 @@ fn visited<A: Allocator + Copy, P: Part<A>>(
     came
 }
 
-/// What comes of the operation of a name that needs nothing else.
+/// Returns the text of the result of the operation with this name, if it is one that needs nothing else.
 fn came_of_bare<A: Allocator + Copy, P: Part<A>>(
     alloc: Global,
     heap: A,
@@ -128,7 +129,7 @@ fn came_of_bare<A: Allocator + Copy, P: Part<A>>(
     }
 }
 
-/// What comes of the operation of a name on an object or a key.
+/// Returns the text of the result of the operation with this name on an object or a key.
 fn came_of_keyed<A: Allocator + Copy, P: Part<A>>(
     alloc: Global,
     heap: A,
@@ -146,7 +147,7 @@ fn came_of_keyed<A: Allocator + Copy, P: Part<A>>(
     }
 }
 
-/// What comes of the operation that a term says.
+/// Returns the text of the result of the operation that a term describes.
 fn came<A: Allocator + Copy, P: Part<A>>(
     alloc: Global,
     heap: A,
@@ -167,18 +168,19 @@ fn came<A: Allocator + Copy, P: Part<A>>(
     }
 }
 
-/// Where a row is: who may ask, what notes that memory was wanted, and whether the part is looked at.
+/// The conditions for a row: the number of sessions, what counts the calls that run out of memory, and whether the part
+/// is compared.
 #[derive(Drop)]
 pub struct Setting<'w, A: Allocator + Copy> {
-    /// How many sessions use the part, numbered from 0.
+    /// The number of sessions that use the part, numbered from 0.
     pub sessions: u8,
-    /// Whether a request for memory may be refused, and how often it was wanted.
+    /// Whether allocations may fail, and how many calls ran out of memory.
     pub wants: &'w Wants,
-    /// What a look at the part asks, where what is refused has to leave all as it was.
+    /// The code with which the part is visited to compare it, if operations that are rejected must leave it unchanged.
     pub watch: Option<&'w Verified<A>>,
 }
 
-/// A step with the reply that came.
+/// Returns the text of a step with the reply that came, or `None` if it is no step.
 fn step_once<A: Allocator + Copy, P: Part<A>>(
     alloc: Global,
     heap: A,
@@ -206,7 +208,8 @@ fn step_once<A: Allocator + Copy, P: Part<A>>(
     out.part(reply).end()
 }
 
-/// So many times a step, with the reply that came, up to the first that isn't what is wanted.
+/// Makes a step `count` times, up to the first time that its reply is not the expected one. Returns the text of a pair:
+/// how many times the reply was the expected one, and the step with the reply that came.
 fn step_often<A: Allocator + Copy, P: Part<A>>(
     alloc: Global,
     heap: A,
@@ -230,7 +233,7 @@ fn step_often<A: Allocator + Copy, P: Part<A>>(
     out.text(wanted.as_slice()).end()
 }
 
-/// A step, or `{Count,Step}` for so many times the same, with the reply that came.
+/// Makes a step, or `{Count,Step}` that many times, and returns the text of it with the reply that came.
 fn step_text<A: Allocator + Copy, P: Part<A>>(
     alloc: Global,
     heap: A,
@@ -247,7 +250,7 @@ fn step_text<A: Allocator + Copy, P: Part<A>>(
     }
 }
 
-/// The steps of a row, each with the reply that came.
+/// Makes the steps of a row, and returns the text of them, each with the reply that came.
 pub fn steps_text<A: Allocator + Copy, P: Part<A>>(
     alloc: Global,
     heap: A,

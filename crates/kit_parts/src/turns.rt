@@ -1,5 +1,6 @@
-//! One operation at a part. What is refused has to stay in its place: it is asked for again, and has to be answered as
-//! it was, but where memory was wanted, which may be there then. How often it was wanted is noted.
+//! One operation at a part. An operation that is rejected has to be returned unchanged: it is tried again, and has to
+//! be rejected again, unless memory had run out, which may be available then. The calls that run out of memory are
+//! counted.
 ghost use Rattle.std.specs.Prelude.{◌≡◌, ◌<◌, IfOk, IfErr};
 ghost use Rattle.part_core.specs.Acts.{IsAsked};
 ghost use Rattle.part_core.specs.Ops.{act_of};
@@ -10,7 +11,7 @@ use std::sync::atomic::{AtomicU64, Ordering};
 use term_core::Term;
 use verifier::Verified;
 
-/// Whether a request for memory may be refused while a row is played, and how often it was wanted then.
+/// Whether allocations may fail while a row runs, and how many calls ran out of memory then.
 #[derive(Drop)]
 pub struct Wants {
     is_scarce: bool,
@@ -18,7 +19,7 @@ pub struct Wants {
 }
 
 impl Wants {
-    /// None yet.
+    /// Returns a count of 0.
     pub fn new(is_scarce: bool) -> Self {
         Wants {
             is_scarce,
@@ -26,12 +27,12 @@ impl Wants {
         }
     }
 
-    /// How often memory was wanted where a request may be refused.
+    /// Returns how many calls ran out of memory while allocations might fail.
     pub fn count(&self) -> u64 {
         self.count.load(Ordering::SeqCst)
     }
 
-    /// Whether a request may be refused; that memory was wanted is noted then.
+    /// Returns whether allocations may fail, and counts a call that ran out of memory if so.
     pub(crate) fn note(&self) -> bool {
         if self.is_scarce {
             self.count.fetch_add(1, Ordering::SeqCst);
@@ -40,7 +41,8 @@ impl Wants {
     }
 }
 
-/// Who asks, what notes that memory was wanted, and what a look at the part asks, where it is looked at.
+/// The session that makes an operation, what counts the calls that run out of memory, and the code with which the part
+/// is visited, if it is compared.
 #[derive(Clone, Copy)]
 pub(crate) struct Turn<'w, A: Allocator + Copy> {
     pub(crate) session: u8,
@@ -48,20 +50,20 @@ pub(crate) struct Turn<'w, A: Allocator + Copy> {
     pub(crate) watch: Option<&'w Verified<A>>,
 }
 
-/// What a part is made for.
+/// The options with which a part is made.
 #[derive(Clone, Copy)]
 pub struct Options {
-    /// What the table holds of a key.
+    /// The kind of the table.
     pub kind: TableKind,
-    /// The place of the key in an object, counted from 1.
+    /// The position of the key in an object, counted from 1.
     pub keypos: u16,
-    /// How many parts the table has.
+    /// The number of parts of the table.
     pub parts: u8,
-    /// How many sessions use it, numbered from 0.
+    /// The number of sessions that use the part, numbered from 0.
     pub sessions: u8,
 }
 
-/// Makes a part.
+/// Makes a part with these options.
 fn make<A: Allocator + Copy, P: Part<A>>(heap: A, options: Options) -> Result<P, OpenFault>
     ensures { IfOk result (λ p. (P.settings p).sessions ≡ options.sessions) }
 {
@@ -74,7 +76,7 @@ fn make<A: Allocator + Copy, P: Part<A>>(heap: A, options: Options) -> Result<P,
     )
 }
 
-/// Makes a part, again where a request for memory was refused.
+/// Makes a part with these options, and tries again if an allocation failed that may fail.
 pub fn made<A: Allocator + Copy, P: Part<A>>(
     heap: A,
     options: Options,
@@ -94,7 +96,7 @@ pub fn made<A: Allocator + Copy, P: Part<A>>(
     }
 }
 
-/// Whether an operation is one that takes no memory.
+/// Returns whether an operation never allocates.
 pub(crate) fn takes_no_memory<A: Allocator>(op: &PartOp<'_, A>) -> bool {
     match op {
         PartOp::Member(_) | PartOp::Delete(_) | PartOp::DeleteObject(_) => true,
@@ -103,7 +105,7 @@ pub(crate) fn takes_no_memory<A: Allocator>(op: &PartOp<'_, A>) -> bool {
     }
 }
 
-/// Whether an operation wanted memory that it may take, where a request may be refused, which is noted.
+/// Returns whether an operation that allocates ran out of memory while allocations may fail, and counts it if so.
 pub(crate) fn wants_memory<A: Allocator + Copy>(
     turn: Turn<'_, A>,
     op: &PartOp<'_, A>,
@@ -112,7 +114,7 @@ pub(crate) fn wants_memory<A: Allocator + Copy>(
     fault == Fault::Memory && !takes_no_memory(op) && turn.wants.note()
 }
 
-/// Does an operation, again where a request for memory was refused that it may make.
+/// Performs an operation, and tries again if it allocates and ran out of memory while allocations may fail.
 fn done<'a, A: Allocator + Copy, P: Part<A>>(
     part: &mut P,
     turn: Turn<'_, A>,
@@ -135,7 +137,7 @@ fn done<'a, A: Allocator + Copy, P: Part<A>>(
     }
 }
 
-/// Does an operation, and asks for it once more where it is refused, but where memory was wanted twice.
+/// Performs an operation. Tries again if it is rejected, unless it ran out of memory twice.
 pub(crate) fn answer<'a, A: Allocator + Copy, P: Part<A>>(
     part: &mut P,
     turn: Turn<'_, A>,
@@ -157,7 +159,7 @@ pub(crate) fn answer<'a, A: Allocator + Copy, P: Part<A>>(
     }
 }
 
-/// Whether an answer ends the row: memory was wanted once more.
+/// Returns whether the result of an operation ends the row, since it ran out of memory again, and counts it if so.
 pub(crate) fn ends<A: Allocator + Copy>(
     turn: Turn<'_, A>,
     op: &PartOp<'_, A>,
@@ -169,7 +171,7 @@ pub(crate) fn ends<A: Allocator + Copy>(
     }
 }
 
-/// The objects of a part, asked for again where a request for memory was refused.
+/// Returns the objects of a part. Tries again if memory ran out while allocations may fail.
 pub(crate) fn objects<A: Allocator + Copy, P: Part<A>>(
     heap: A,
     part: &P,

@@ -1,5 +1,5 @@
-//! Operations at a part that is looked at before them and where they are refused: all that can be seen of it has to be
-//! as it was.
+//! Operations at a part that is compared before them and after they are rejected: all that can be seen of it has to be
+//! unchanged.
 ghost use Rattle.std.specs.Prelude.{◌≡◌, ◌<◌};
 ghost use Rattle.part_core.specs.Acts.{IsAsked};
 ghost use Rattle.part_core.specs.Ops.{act_of};
@@ -13,10 +13,10 @@ use std::alloc::{Allocator, Global};
 use std::mem;
 use verifier::Verified;
 
-/// The most visits of a walk through a part.
+/// The maximal number of visits of a walk through a part.
 const MOST_VISITS: u32 = 10_000;
 
-/// The code of the specification that is answered each object.
+/// Returns the code of a specification whose answer on each object is the object.
 pub fn watching_code<A: Allocator + Copy>(heap: A) -> Option<Verified<A>> {
     let specification = term_of(heap, b"[{'_',[],['$_']}].")?;
     let code = code_of(heap, &specification);
@@ -24,7 +24,7 @@ pub fn watching_code<A: Allocator + Copy>(heap: A) -> Option<Verified<A>> {
     code
 }
 
-/// What a visit from a place on is answered.
+/// Returns the result of a visit of all that follows a cursor, or of the part from its beginning.
 fn visited_from<A: Allocator + Copy, P: Part<A>>(
     part: &mut P,
     turn: Turn<'_, A>,
@@ -49,7 +49,7 @@ fn visited_from<A: Allocator + Copy, P: Part<A>>(
     answer
 }
 
-/// The text of what a visit found; none where it was refused.
+/// Returns the text of what a visit found, or `None` if it was rejected.
 fn visit_text<A: Allocator>(alloc: Global, answer: &Result<Reply<A>, Fault>) -> Option<Vec<u8>> {
     match answer {
         Ok(reply) => reply_text(alloc, reply),
@@ -57,7 +57,7 @@ fn visit_text<A: Allocator>(alloc: Global, answer: &Result<Reply<A>, Fault>) -> 
     }
 }
 
-/// Where a walk goes on behind a visit.
+/// Returns where a walk goes on after a visit.
 fn behind<A: Allocator>(answer: Result<Reply<A>, Fault>) -> Option<Cursor<A>> {
     let mut answer = answer;
     let next = match &mut answer {
@@ -68,7 +68,7 @@ fn behind<A: Allocator>(answer: Result<Reply<A>, Fault>) -> Option<Cursor<A>> {
     next
 }
 
-/// What a walk through a part finds, visit by visit, as a text.
+/// Returns the text of what a walk through a part finds, visit by visit.
 fn walk_text<A: Allocator + Copy, P: Part<A>>(
     alloc: Global,
     part: &mut P,
@@ -93,8 +93,8 @@ fn walk_text<A: Allocator + Copy, P: Part<A>>(
     None
 }
 
-/// All that can be seen of a part, as a text: its objects, what a walk through it finds, and how often the session
-/// fixes it.
+/// Returns the text of all that can be seen of a part: its objects, what a walk through it finds, and how many fixes
+/// the session has.
 fn look<A: Allocator + Copy, P: Part<A>>(
     alloc: Global,
     heap: A,
@@ -112,8 +112,8 @@ fn look<A: Allocator + Copy, P: Part<A>>(
     out.number(usize::from(fixes)).end()
 }
 
-/// What comes of an operation that was refused, asked for again where it may be; none where it wants memory again and
-/// again.
+/// Returns the text of the result of an operation that was rejected, and is tried again if it may be. Returns `None` if
+/// it runs out of memory each time.
 fn again<'a, A: Allocator + Copy, P: Part<A>>(
     alloc: Global,
     part: &mut P,
@@ -139,7 +139,7 @@ fn again<'a, A: Allocator + Copy, P: Part<A>>(
     text
 }
 
-/// What comes of an operation; `changed` where it is refused and the part isn't as it was before.
+/// Returns the text of the result of an operation; `changed` if it is rejected and the part is not as it was before.
 pub(crate) fn watched<'a, A: Allocator + Copy, P: Part<A>>(
     alloc: Global,
     heap: A,

@@ -1,11 +1,11 @@
-//! Values that are let go whole, which costs a caller's proof less than where they go at the end of a scope.
+//! Drops of whole values, which cost a caller's proof less than drops at the end of a scope.
 
-/// Whether it was an `Ok`. What it holds is let go.
+/// Returns whether the value is an `Ok`, and drops it.
 pub fn was_ok<T: Drop, E: Drop>(came: Result<T, E>) -> bool {
     came.is_ok()
 }
 
-/// Whether it was a `Some`. What it holds is let go.
+/// Returns whether the value is a `Some`, and drops it.
 pub fn was_some<T: Drop>(value: Option<T>) -> bool {
     value.is_some()
 }

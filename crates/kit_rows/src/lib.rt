@@ -1,16 +1,16 @@
-//! Rows of tests as terms, and one judge of them: what comes of each row is compared with what it wants.
+//! Rows of tests as terms, and a judge of them: the result of each row is compared with the expected one.
 //!
-//! What is read from a row is generic in the allocator, so that a test may refuse memory meanwhile. What refuses is
-//! made in this crate alone: a program's calls are built, and proved as a whole with it, once more for each crate that
-//! makes an allocator for them.
+//! What is read from a row is generic in the allocator, so that a test may make allocations fail meanwhile. Such an
+//! allocator is made in this crate alone: the code that a program calls is built and proved as a whole again for each
+//! crate that makes an allocator for it.
 //!
-//! - What stands in a row: `parts`, names, numbers and lists; `texts`, a text, in pieces that may be repeated, and the
-//!   term that it says; `functions`, a function by its name; `sizes`, how deep and how long a term is.
-//! - `putting`: terms put behind others, for rows that are made; `let_go`: values that are let go whole.
-//! - `rows`: the rows of a text, judged by what a program says comes of each; `tally`: how many there were of each
-//!   kind; `outcome`: what came, as a text that is put together.
-//! - Rows of refused memory: `sweeps`, calls on a text with each request refused in turn; `without`, with each refused
-//!   from the first on that they make once what the text says is there.
+//! - What a row contains: `parts`, names, numbers and lists; `texts`, a text, in pieces that may be repeated, and the
+//!   term that it spells; `functions`, a function by its name; `sizes`, how deep and how long a term is.
+//! - `putting`: appends terms, for rows that are made; `let_go`: drops whole values.
+//! - `rows`: the rows of a text, compared with what a program returns for each; `tally`: the number of rows of each
+//!   kind; `outcome`: a result, as a text that is put together.
+//! - Rows with failing allocations: `sweeps`, calls on a text in which each allocation fails in turn; `without`, calls
+//!   in which each allocation fails once the text has been read.
 #![tactic(auto)]
 
 mod functions;

@@ -1,10 +1,10 @@
-//! What came of a row, as a text.
+//! The result of a row, as a text.
 use std::alloc::{Allocator, Global};
 use std::io::Write;
 use term_core::{Fault, Term};
 use term_text::write_term;
 
-/// The text of a tuple or of a list, which is put together element by element. Want of memory is told where it ends.
+/// The text of a tuple or of a list, which is put together element by element. If memory runs out, `end` reports it.
 #[derive(Drop)]
 pub struct Outcome {
     text: Vec<u8>,
@@ -25,22 +25,22 @@ impl Outcome {
         }
     }
 
-    /// A tuple of no elements yet.
+    /// Returns a tuple without elements.
     pub fn tuple(alloc: Global) -> Self {
         Outcome::new(alloc, b'{', b'}')
     }
 
-    /// A list of no elements yet.
+    /// Returns a list without elements.
     pub fn list(alloc: Global) -> Self {
         Outcome::new(alloc, b'[', b']')
     }
 
-    /// Keeps whether something was written.
+    /// Records whether something was written.
     fn keep(&mut self, is_written: bool) {
         self.is_whole = self.is_whole && is_written;
     }
 
-    /// Puts a comma behind the element before, where there is one.
+    /// Appends a comma if there is an element before.
     fn separate(&mut self) {
         if self.has_elements {
             let is_written = self.text.push(b',').is_ok();
@@ -49,7 +49,7 @@ impl Outcome {
         self.has_elements = true;
     }
 
-    /// Begins a list that is an element.
+    /// Begins a list as an element.
     pub fn open_list(self) -> Self {
         let mut list = self.text(b"[");
         list.has_elements = false;
@@ -64,7 +64,7 @@ impl Outcome {
         self
     }
 
-    /// Puts an element of this text at the end.
+    /// Appends this text as an element.
     pub fn text(mut self, text: &[u8]) -> Self {
         self.separate();
         let is_written = self.text.extend_from_slice(text).is_ok();
@@ -72,7 +72,7 @@ impl Outcome {
         self
     }
 
-    /// Puts an element of this text at the end, none where memory was wanted for it.
+    /// Appends this text as an element. `None` means that memory ran out for the text.
     pub fn part(mut self, text: Option<Vec<u8>>) -> Self {
         match text {
             Some(text) => self.text(text.as_slice()),
@@ -83,17 +83,17 @@ impl Outcome {
         }
     }
 
-    /// Puts a word at the end.
+    /// Appends a word as an element.
     pub fn word(self, word: &str) -> Self {
         self.text(word.as_bytes())
     }
 
-    /// Puts a truth value at the end.
+    /// Appends a truth value as an element.
     pub fn truth(self, value: bool) -> Self {
         self.word(truth_name(value))
     }
 
-    /// Puts a number at the end.
+    /// Appends a number as an element.
     pub fn number(mut self, number: usize) -> Self {
         self.separate();
         let is_written = write!(self.text, "{number}").is_ok();
@@ -101,7 +101,7 @@ impl Outcome {
         self
     }
 
-    /// Puts a term at the end.
+    /// Appends a term as an element.
     pub fn term<A: Allocator>(mut self, term: &Term<A>) -> Self {
         self.separate();
         let is_written = write_term(term, &mut self.text).is_ok();
@@ -109,7 +109,7 @@ impl Outcome {
         self
     }
 
-    /// The text, none where memory was wanted.
+    /// Returns the text, or `None` if memory ran out.
     pub fn end(mut self) -> Option<Vec<u8>> {
         let close = self.close;
         let is_closed = self.text.push(close).is_ok();
@@ -121,44 +121,45 @@ impl Outcome {
     }
 }
 
-/// The text of a truth value.
+/// Returns the text of a truth value: `true` or `false`.
 pub const fn truth_name(value: bool) -> &'static str {
     if value { "true" } else { "false" }
 }
 
-/// A word.
+/// Returns the text of a word, or `None` if memory runs out.
 pub fn word(alloc: Global, text: &str) -> Option<Vec<u8>> {
     Vec::from_slice(alloc, text.as_bytes()).ok()
 }
 
-/// The digits of a number.
+/// Returns the decimal digits of a number, or `None` if memory runs out.
 pub fn digits(alloc: Global, number: u64) -> Option<Vec<u8>> {
     Some(number.to_string(alloc).ok()?.into_bytes())
 }
 
-/// The canonical text of a term.
+/// Returns the canonical text of a term, or `None` if memory runs out.
 pub fn canonical<A: Allocator>(alloc: Global, term: &Term<A>) -> Option<Vec<u8>> {
     let mut out = Vec::new(alloc);
     write_term(term, &mut out).ok()?;
     Some(out)
 }
 
-/// The text of a pair of a word and a term.
+/// Returns the text of a pair of a word and a term, or `None` if memory runs out.
 pub fn tagged<A: Allocator>(alloc: Global, tag: &str, term: &Term<A>) -> Option<Vec<u8>> {
     Outcome::tuple(alloc).word(tag).term(term).end()
 }
 
-/// The text of a tuple of a word and a number.
+/// Returns the text of a pair of a word and a number, or `None` if memory runs out.
 pub fn numbered(alloc: Global, tag: &str, number: usize) -> Option<Vec<u8>> {
     Outcome::tuple(alloc).word(tag).number(number).end()
 }
 
-/// The text of a refusal: a tuple of a word and the number of the fault.
+/// Returns the text of `{refused,Number}` with the error code of the fault, or `None` if memory runs out.
 pub fn refused(alloc: Global, fault: Fault) -> Option<Vec<u8>> {
     numbered(alloc, "refused", usize::from(fault.number()))
 }
 
-/// The canonical texts of terms, a dot behind each and a space between.
+/// Returns the canonical texts of terms, each followed by a dot, with blanks between them, or `None` if memory runs
+/// out.
 pub fn written<A: Allocator>(alloc: Global, terms: &[Term<A>]) -> Option<Vec<u8>> {
     let mut out = Vec::new(alloc);
     for term in terms {
@@ -169,7 +170,8 @@ pub fn written<A: Allocator>(alloc: Global, terms: &[Term<A>]) -> Option<Vec<u8>
     Some(out)
 }
 
-/// The canonical texts of terms with commas between, in brackets: so the text of their list.
+/// Returns the text of a list of terms: their canonical texts in brackets, with commas between them. Returns `None` if
+/// memory runs out.
 pub fn listed<A: Allocator>(alloc: Global, terms: &[Term<A>]) -> Option<Vec<u8>> {
     let mut out = Outcome::list(alloc);
     for term in terms {

@@ -2,28 +2,28 @@
 use std::alloc::Allocator;
 use term_core::{Term, View};
 
-/// The characters of a term that is an atom.
-pub(crate) fn characters<A: Allocator>(term: &Term<A>) -> Option<&[char]> {
+/// Returns the text of an atom, or `None` for any other term.
+pub(crate) fn text_of<A: Allocator>(term: &Term<A>) -> Option<&str> {
     match term.view() {
-        View::Atom(characters) => Some(characters),
+        View::Atom(text) => Some(text),
         _ => None,
     }
 }
 
-/// Whether a term is the atom of that text.
+/// Returns whether a term is the atom with this text.
 pub fn is_atom<A: Allocator>(term: &Term<A>, text: &str) -> bool {
-    match characters(term) {
-        Some(characters) => characters.iter().copied().eq(text.chars()),
+    match text_of(term) {
+        Some(name) => name == text,
         None => false,
     }
 }
 
-/// The text of a term that is an atom.
+/// Returns the text of an atom, or `None` for any other term or if memory runs out.
 pub fn name<A: Allocator + Copy>(heap: A, term: &Term<A>) -> Option<String<A>> {
-    characters(term)?.iter().copied().collect(heap).ok()
+    String::from_str(heap, text_of(term)?).ok()
 }
 
-/// The number that a term is.
+/// Returns the value of an integer from 0 to 2^32 - 1, or `None` for any other term.
 pub fn number<A: Allocator>(term: &Term<A>) -> Option<u32> {
     match term.view() {
         View::Integer(value) => u32::try_from(value).ok(),
@@ -31,12 +31,12 @@ pub fn number<A: Allocator>(term: &Term<A>) -> Option<u32> {
     }
 }
 
-/// The number of at most 16 bits that a term is.
+/// Returns the value of an integer from 0 to 65,535, or `None` for any other term.
 pub fn short<A: Allocator>(term: &Term<A>) -> Option<u16> {
     u16::try_from(number(term)?).ok()
 }
 
-/// The elements of a term that is a list.
+/// Returns the elements of a proper list, or `None` for any other term.
 pub fn elements<A: Allocator>(term: &Term<A>) -> Option<&[Term<A>]> {
     match term.view() {
         View::List(elements, None) => Some(elements),
@@ -45,7 +45,7 @@ pub fn elements<A: Allocator>(term: &Term<A>) -> Option<&[Term<A>]> {
     }
 }
 
-/// The elements of a term that is a tuple.
+/// Returns the elements of a tuple, or `None` for any other term.
 pub fn fields<A: Allocator>(term: &Term<A>) -> Option<&[Term<A>]> {
     match term.view() {
         View::Tuple(elements) => Some(elements),

@@ -1,14 +1,14 @@
-//! Terms put behind others. What a `push` hands back for want of memory is let go.
+//! Appends terms. A term that a `push` returns since memory ran out is dropped.
 use crate::let_go::was_ok;
 use std::alloc::Allocator;
 use term_core::Term;
 
-/// Puts a term behind others; false for want of memory.
+/// Appends a term; returns `false` if memory ran out.
 pub fn put<A: Allocator>(terms: &mut Vec<Term<A>, A>, term: Term<A>) -> bool {
     was_ok(terms.push(term))
 }
 
-/// Puts a copy of a term behind others; false for want of memory.
+/// Appends a copy of a term; returns `false` if memory ran out.
 pub fn put_copy<A: Allocator>(terms: &mut Vec<Term<A>, A>, term: &Term<A>) -> bool {
     match term.copy() {
         Ok(copy) => put(terms, copy),
@@ -16,7 +16,7 @@ pub fn put_copy<A: Allocator>(terms: &mut Vec<Term<A>, A>, term: &Term<A>) -> bo
     }
 }
 
-/// Puts a pair behind others; false for want of memory.
+/// Appends a pair; returns `false` if memory ran out.
 pub fn put_pair<A: Allocator>(
     pairs: &mut Vec<(Term<A>, Term<A>), A>,
     key: Term<A>,

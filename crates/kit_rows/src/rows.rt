@@ -1,4 +1,4 @@
-//! Rows of a text, and what comes of them.
+//! The rows of a text, and their results.
 use crate::outcome::canonical;
 use crate::parts::{fields, name};
 use crate::tally::Tally;
@@ -9,56 +9,57 @@ use std::process::ExitCode;
 use term_core::Term;
 use term_text::read_terms;
 
-/// The most bytes that are shown of a text.
+/// The maximal number of bytes of a text that are shown.
 const SHOWN: usize = 2_000;
 
 /// The kinds of rows that a program knows.
 pub trait Kinds {
-    /// What comes of a row of a kind, where its operands are in the forms of this number: a text. None where there is
-    /// no such row.
+    /// Returns the result of a row of this kind, as a text, where its operands are in the forms with the number
+    /// `forms`. Returns `None` if there is no such row.
     fn came(&self, alloc: Global, kind: &str, parts: &[Term], forms: usize) -> Option<Vec<u8>>;
 
-    /// In how many forms the operands of a row of a kind are tried.
+    /// Returns the number of forms in which the operands of a row of this kind are tried.
     fn forms(_kind: &str) -> usize {
         1
     }
 
-    /// Whether a row of a kind wants a text in pieces, and not the canonical text of its last element.
+    /// Returns whether the last element of a row of this kind gives the expected text in pieces. Otherwise the
+    /// canonical text of the last element is expected.
     fn wants_text(_kind: &str) -> bool {
         false
     }
 }
 
-/// What comes of all rows.
+/// The results of all rows.
 #[derive(Drop)]
 struct Report {
-    /// A line for each kind and one for all, behind what is to be said of rows that are not right.
+    /// The messages about rows that are not right, followed by a line for each kind and one for all rows.
     text: Vec<u8>,
     is_right: bool,
 }
 
-/// What comes of a row.
+/// The result of a row, compared with the expected one.
 #[derive(Drop)]
 enum Verdict {
     Right,
-    /// What was wanted and what came, as texts.
+    /// The expected text and the one that came.
     Wrong(Vec<u8>, Vec<u8>),
-    /// It isn't a row.
+    /// The term is not a row.
     Unknown,
 }
 
-/// The kind of a row.
+/// Returns the kind of a row, its first element.
 fn kind_of(alloc: Global, row: &Term) -> Option<String> {
     name(alloc, fields(row)?.first()?)
 }
 
-/// What a row has behind its kind.
+/// Returns what follows the kind of a row.
 fn parts_of(row: &Term) -> Option<&[Term]> {
     let (_kind, parts) = fields(row)?.split_first()?;
     Some(parts)
 }
 
-/// The text that the last element of a row wants.
+/// Returns the text that the last element of a row expects.
 fn wanted<K: Kinds>(alloc: Global, kind: &str, last: &Term) -> Option<Vec<u8>> {
     if K::wants_text(kind) {
         text(alloc, last)
@@ -67,7 +68,8 @@ fn wanted<K: Kinds>(alloc: Global, kind: &str, last: &Term) -> Option<Vec<u8>> {
     }
 }
 
-/// The first that comes of a row in its forms and isn't what is wanted, if any.
+/// Returns the first result of a row, over its forms, that differs from the expected one; `Some(None)` if none differs.
+/// Returns `None` if there is no such row.
 fn other_than<K: Kinds>(
     kinds: &K,
     alloc: Global,
@@ -84,7 +86,7 @@ fn other_than<K: Kinds>(
     Some(None)
 }
 
-/// What comes of a row in each of its forms.
+/// Compares the results of a row, in each of its forms, with the expected one.
 fn verdict_in_forms<K: Kinds>(
     kinds: &K,
     alloc: Global,
@@ -98,13 +100,13 @@ fn verdict_in_forms<K: Kinds>(
     }
 }
 
-/// What comes of a row, none where it isn't one.
+/// Compares the results of a row with the expected one, or returns `None` if the term is not a row.
 fn verdict_of<K: Kinds>(kinds: &K, alloc: Global, row: &Term) -> Option<Verdict> {
     let parts = parts_of(row)?;
     verdict_in_forms(kinds, alloc, kind_of(alloc, row)?.as_str(), parts)
 }
 
-/// Appends a line of a word and the beginning of a text.
+/// Appends a line with a word and the first 2,000 bytes of a text.
 fn show(out: &mut Vec<u8>, word: &str, text: &[u8]) -> Result<(), AllocError> {
     out.extend_from_slice(word.as_bytes())?;
     out.extend_from_slice(&text[..text.len().min(SHOWN)])?;
@@ -119,7 +121,7 @@ fn show_row(alloc: Global, out: &mut Vec<u8>, row: &Term) -> Result<(), AllocErr
     }
 }
 
-/// Appends what is to be said of a row.
+/// Appends the message about a row, or nothing if it is right.
 fn show_verdict(
     alloc: Global,
     out: &mut Vec<u8>,
@@ -140,7 +142,7 @@ fn show_verdict(
     }
 }
 
-/// Judges a row, and counts it.
+/// Compares the results of a row, appends the message about it, and counts it.
 fn judge_row<K: Kinds>(
     kinds: &K,
     alloc: Global,
@@ -159,7 +161,7 @@ fn judge_row<K: Kinds>(
     show_verdict(alloc, out, row, verdict)
 }
 
-/// Judges each of these rows.
+/// Compares the results of each of these rows.
 fn judge_rows<K: Kinds>(kinds: &K, alloc: Global, rows: &[Term]) -> Result<Report, AllocError> {
     let mut out = Vec::new(alloc);
     let mut tally = Tally::new(alloc);
@@ -173,7 +175,7 @@ fn judge_rows<K: Kinds>(kinds: &K, alloc: Global, rows: &[Term]) -> Result<Repor
     })
 }
 
-/// Judges the rows of a text.
+/// Compares the results of the rows of a text. A text that can't be read is reported as not right.
 fn judge<K: Kinds>(kinds: &K, alloc: Global, text: &[u8]) -> Result<Report, AllocError> {
     match read_terms(alloc, text) {
         Ok(rows) => {
@@ -188,8 +190,8 @@ fn judge<K: Kinds>(kinds: &K, alloc: Global, text: &[u8]) -> Result<Report, Allo
     }
 }
 
-/// Judges the rows that a reader gives to its end, and writes what is to be said of them. The status is of success
-/// where all rows are right. An error is of want of memory, of the reader or of the writer.
+/// Reads rows up to the reader's end, compares their results, and writes the messages about them and the counts.
+/// Returns success if all rows are right. Fails if memory runs out, or the reader or the writer fails.
 pub fn judge_streams<K: Kinds, R: Read, W: Write>(
     kinds: &K,
     alloc: Global,

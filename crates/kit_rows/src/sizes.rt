@@ -3,12 +3,12 @@ use crate::outcome::Outcome;
 use std::alloc::Global;
 use term_core::{Term, View};
 
-/// How many elements, pairs, characters or bytes a term has.
+/// Returns the number of elements, pairs, characters or bytes of a term; 0 for an integer.
 pub fn length(term: &Term) -> usize {
     match term.view() {
         View::Integer(_) => 0,
         View::Nil => 0,
-        View::Atom(characters) => characters.len(),
+        View::Atom(text) => text.chars().count(),
         View::Tuple(elements) => elements.len(),
         View::List(elements, _) => elements.len(),
         View::Map(pairs) => pairs.len(),
@@ -16,7 +16,7 @@ pub fn length(term: &Term) -> usize {
     }
 }
 
-/// The text of a pair of the depth and the length of a term.
+/// Returns the text of a pair of the depth and the length of a term.
 pub fn size_of(alloc: Global, term: &Term) -> Option<Vec<u8>> {
     let (depth, length) = (usize::from(term.depth()), length(term));
     Outcome::tuple(alloc).number(depth).number(length).end()

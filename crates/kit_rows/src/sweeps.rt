@@ -1,4 +1,4 @@
-//! Calls with each request for memory refused in turn.
+//! Calls in which each allocation fails in turn.
 use crate::outcome::word;
 use crate::texts::text;
 use kit_alloc::{Failing, Plan, sweep, sweep_onward};
@@ -7,11 +7,11 @@ use term_core::Term;
 
 /// Calls on a text that a program knows.
 pub trait Calls {
-    /// The most requests for memory that one call makes.
+    /// The maximal number of allocations of one call.
     const MOST_REQUESTS: u64;
 
-    /// What comes of the call of a name on a text, with memory from `heap`: a text. None where the call wants memory
-    /// and leaves all as it was.
+    /// Returns the result of the call of this name on a text, as a text; the call allocates from `heap`. Returns `None`
+    /// if the call ran out of memory and left all as it was.
     fn outcome<A: Allocator + Copy>(
         alloc: Global,
         heap: A,
@@ -19,14 +19,15 @@ pub trait Calls {
         given: &[u8],
     ) -> Option<Vec<u8>>;
 
-    /// Whether the call of a name may answer where a request for memory was refused, since it asks again itself.
+    /// Returns whether the call of this name may succeed although an allocation failed, since it allocates again
+    /// itself.
     fn asks_again(_call: &str) -> bool {
         false
     }
 }
 
-/// Whether a call that wanted memory, which was refused, gives the same when it is made again over the same allocator;
-/// where each later request is refused, too, it may want memory once more.
+/// Returns whether a call in which an allocation failed gives the expected result when it is made again over the same
+/// allocator. If all later allocations fail too, it may run out of memory again.
 fn is_right_again<C: Calls>(
     alloc: Global,
     heap: &Failing<Global>,
@@ -40,8 +41,8 @@ fn is_right_again<C: Calls>(
     }
 }
 
-/// Whether the same comes of a call where no request was refused, and memory is wanted where one was, and the same comes
-/// of it when it is made again; and no block is left then.
+/// Returns whether a call gives the expected result if no allocation failed, and runs out of memory if one did. In the
+/// latter case it has to give the result when it is made again. In each case no block may be left allocated.
 fn is_right<C: Calls>(
     alloc: Global,
     heap: &Failing<Global>,
@@ -56,7 +57,7 @@ fn is_right<C: Calls>(
     is_right && heap.blocks() == 0
 }
 
-/// Whether it is so whichever request is refused.
+/// Returns whether `is_right` is true with each allocation failing alone, one after the other.
 fn is_swept<C: Calls>(alloc: Global, call: &str, given: &[u8], wanted: &[u8]) -> bool {
     sweep(alloc, C::MOST_REQUESTS, |heap: &Failing<Global>| {
         is_right::<C>(alloc, heap, call, given, wanted)
@@ -64,7 +65,7 @@ fn is_swept<C: Calls>(alloc: Global, call: &str, given: &[u8], wanted: &[u8]) ->
     .is_complete()
 }
 
-/// Whether it is so where with a request all behind it are refused.
+/// Returns whether `is_right` is true with each allocation failing together with all later ones, one after the other.
 fn is_swept_onward<C: Calls>(alloc: Global, call: &str, given: &[u8], wanted: &[u8]) -> bool {
     sweep_onward(alloc, C::MOST_REQUESTS, |heap: &Failing<Global>| {
         is_right::<C>(alloc, heap, call, given, wanted)
@@ -72,7 +73,8 @@ fn is_swept_onward<C: Calls>(alloc: Global, call: &str, given: &[u8], wanted: &[
     .is_complete()
 }
 
-/// What comes of a call, with memory and with each request refused in turn.
+/// Returns the result of a call, made with memory and with each allocation failing alone; `another_without_memory` if
+/// the results differ.
 pub fn swept<C: Calls>(alloc: Global, call: &str, given: &[u8]) -> Option<Vec<u8>> {
     let out = C::outcome(alloc, alloc, call, given)?;
     if is_swept::<C>(alloc, call, given, out.as_slice()) {
@@ -82,7 +84,8 @@ pub fn swept<C: Calls>(alloc: Global, call: &str, given: &[u8]) -> Option<Vec<u8
     }
 }
 
-/// The same, and with each refused and all behind it.
+/// Returns the result of a call, made with memory, with each allocation failing alone, and with each failing together
+/// with all later ones; `another_without_memory` if the results differ.
 fn swept_onward<C: Calls>(alloc: Global, call: &str, given: &[u8]) -> Option<Vec<u8>> {
     let out = swept::<C>(alloc, call, given)?;
     if is_swept_onward::<C>(alloc, call, given, out.as_slice()) {
@@ -92,7 +95,8 @@ fn swept_onward<C: Calls>(alloc: Global, call: &str, given: &[u8]) -> Option<Vec
     }
 }
 
-/// What comes of a row of a text and of what is wanted, whose kind is `swept_` and what is called.
+/// Returns the result of a row of a text and the expected text. The kind of the row is the name of the call, which
+/// begins with `swept_`.
 pub fn swept_row<C: Calls>(alloc: Global, kind: &str, parts: &[Term]) -> Option<Vec<u8>> {
     let [given, _] = parts else {
         return None;

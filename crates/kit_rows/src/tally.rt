@@ -1,7 +1,7 @@
-//! How many rows there were of each kind.
+//! The number of rows of each kind.
 use std::alloc::{AllocError, Global};
 
-/// Appends the digits of a number.
+/// Appends the decimal digits of a number.
 fn write_number(alloc: Global, out: &mut Vec<u8>, number: u64) -> Result<(), AllocError> {
     out.extend_from_slice(number.to_string(alloc)?.as_bytes())
 }
@@ -13,7 +13,7 @@ struct Count {
     rows: u64,
 }
 
-/// The rows of each kind, by their first row.
+/// The number of rows of each kind, in the order of their first rows.
 #[derive(Drop)]
 pub(crate) struct Tally {
     counts: Vec<Count>,
@@ -38,7 +38,7 @@ impl Tally {
         }
     }
 
-    /// Counts a row of a kind.
+    /// Counts a row of this kind.
     pub(crate) fn count_kind(&mut self, kind: String) -> Result<(), AllocError> {
         for count in &mut self.counts {
             if count.kind.as_str() == kind.as_str() {
@@ -50,12 +50,12 @@ impl Tally {
         Ok(())
     }
 
-    /// How many rows were not right.
+    /// Returns the number of rows that were not right.
     pub(crate) fn failed(&self) -> u64 {
         self.failed
     }
 
-    /// Appends a line for each kind, and one for all.
+    /// Appends a line for each kind, and one for all rows.
     pub(crate) fn write(&self, alloc: Global, out: &mut Vec<u8>) -> Result<(), AllocError> {
         for count in &self.counts {
             out.extend_from_slice(count.kind.as_bytes())?;

@@ -1,19 +1,19 @@
 //! A text, in pieces that may be repeated, so that long texts are short rows.
 //!
-//! A text is a list of pieces: a character's number, a string, a binary of bytes, `{Count,Piece}` for so many of one
-//! string or binary, and `{First,Count,Before,After}` for so many numbers that rise from the first, each between two
-//! strings. So a string is a text too. The bytes of a text may say terms.
+//! A text is a list of pieces: the number of a character; a string; a binary of bytes; `{Count,Piece}` for a string or
+//! binary that is repeated; or `{First,Count,Before,After}` for ascending numbers from `First`, each between two
+//! strings. So a string is a text too. The bytes of a text may spell terms.
 use crate::parts::{elements, fields, number};
 use std::alloc::Allocator;
 use term_core::{Term, View};
 use term_text::read_terms;
 
-/// The character whose number a term is.
+/// Returns the character with this number, or `None` if the term is not one.
 fn character<A: Allocator>(term: &Term<A>) -> Option<char> {
     char::from_u32(number(term)?)
 }
 
-/// The text whose characters have these numbers.
+/// Returns the text of the characters with these numbers.
 fn string<A: Allocator + Copy>(heap: A, numbers: &[Term<A>]) -> Option<String<A>> {
     let mut text = String::new(heap);
     for number in numbers {
@@ -22,7 +22,7 @@ fn string<A: Allocator + Copy>(heap: A, numbers: &[Term<A>]) -> Option<String<A>
     Some(text)
 }
 
-/// The bytes of a string or a binary.
+/// Returns the bytes of a string or a binary.
 fn plain_text<A: Allocator + Copy>(heap: A, text: &Term<A>) -> Option<Vec<u8, A>> {
     match text.view() {
         View::Binary(bytes) => Vec::from_slice(heap, bytes).ok(),
@@ -30,7 +30,7 @@ fn plain_text<A: Allocator + Copy>(heap: A, text: &Term<A>) -> Option<Vec<u8, A>
     }
 }
 
-/// Appends a text so many times.
+/// Appends a text `count` times.
 fn push_repeated<A: Allocator>(out: &mut Vec<u8, A>, count: u32, unit: &[u8]) -> Option<()> {
     for _ in 0..count {
         out.extend_from_slice(unit).ok()?;
@@ -38,7 +38,7 @@ fn push_repeated<A: Allocator>(out: &mut Vec<u8, A>, count: u32, unit: &[u8]) ->
     Some(())
 }
 
-/// Appends the text of a term so many times.
+/// Appends the text of a term `count` times.
 fn push_unit<A: Allocator + Copy>(
     heap: A,
     out: &mut Vec<u8, A>,
@@ -49,13 +49,13 @@ fn push_unit<A: Allocator + Copy>(
     push_repeated(out, count, unit.as_slice())
 }
 
-/// Appends the digits of a number.
+/// Appends the decimal digits of a number.
 fn push_digits<A: Allocator + Copy>(heap: A, out: &mut Vec<u8, A>, number: u32) -> Option<()> {
     let digits = number.to_string(heap).ok()?;
     out.extend_from_slice(digits.as_bytes()).ok()
 }
 
-/// Appends so many numbers that rise from the first, each between these texts.
+/// Appends `count` ascending numbers from `first`, each between these texts.
 fn push_numbers<A: Allocator + Copy>(
     heap: A,
     out: &mut Vec<u8, A>,
@@ -72,7 +72,7 @@ fn push_numbers<A: Allocator + Copy>(
     Some(())
 }
 
-/// The same between the texts of two terms.
+/// Appends `count` ascending numbers from `first`, each between the texts of two terms.
 fn push_numbers_between<A: Allocator + Copy>(
     heap: A,
     out: &mut Vec<u8, A>,
@@ -96,7 +96,7 @@ fn push_character<A: Allocator + Copy>(
     out.extend_from_slice(text.as_bytes()).ok()
 }
 
-/// Appends a piece of a text that is a tuple.
+/// Appends a piece of a text that is a tuple: a repeated text or ascending numbers.
 fn push_many<A: Allocator + Copy>(heap: A, out: &mut Vec<u8, A>, piece: &[Term<A>]) -> Option<()> {
     match piece {
         [count, unit] => push_unit(heap, out, number(count)?, unit),
@@ -136,7 +136,7 @@ fn push_pieces<A: Allocator + Copy>(
     Some(())
 }
 
-/// The bytes of a text in pieces.
+/// Returns the bytes of a text in pieces, or `None` if it is none or memory runs out.
 pub fn text<A: Allocator + Copy>(heap: A, pieces: &Term<A>) -> Option<Vec<u8, A>> {
     let pieces = elements(pieces)?;
     let mut out = Vec::new(heap);
@@ -146,7 +146,7 @@ pub fn text<A: Allocator + Copy>(heap: A, pieces: &Term<A>) -> Option<Vec<u8, A>
     }
 }
 
-/// The only term that a text says.
+/// Returns the last term of a text, which should be its only one, or `None` if the text can't be read or has no term.
 pub fn term_of<A: Allocator + Copy>(heap: A, text: &[u8]) -> Option<Term<A>> {
     let Ok(mut terms) = read_terms(heap, text) else {
         return None;

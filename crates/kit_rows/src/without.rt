@@ -1,4 +1,4 @@
-//! Calls with each request for memory refused once what a text says is there.
+//! Calls in which each allocation fails once the terms of a text have been read.
 use crate::outcome::word;
 use crate::sweeps::Calls;
 use crate::texts::text;
@@ -6,13 +6,13 @@ use kit_alloc::Failing;
 use std::alloc::{Allocator, Global};
 use term_core::Term;
 
-/// What the calls of a program are made with.
+/// What the calls of a program need before they are made.
 pub trait Loads {
-    /// Whether what a text says is there, with memory from `heap`.
+    /// Reads what a text spells, with memory from `heap`, and returns whether that succeeded.
     fn is_loaded<A: Allocator + Copy>(heap: A, given: &[u8]) -> bool;
 }
 
-/// How many requests for memory it takes until what a text says is there.
+/// Returns the number of allocations that reading what a text spells makes.
 fn requests<C: Loads>(alloc: Global, given: &[u8]) -> Option<u64> {
     let heap = Failing::counting(alloc);
     if C::is_loaded(&heap, given) {
@@ -22,7 +22,8 @@ fn requests<C: Loads>(alloc: Global, given: &[u8]) -> Option<u64> {
     }
 }
 
-/// What comes of a call with each request refused once what a text says is there.
+/// Returns the result of a call in which each allocation fails once what the text spells has been read. The result is
+/// `refused` if an allocation failed and the call ran out of memory, `wanting` if it failed without that.
 fn without_memory<C: Calls + Loads>(alloc: Global, call: &str, given: &[u8]) -> Option<Vec<u8>> {
     let heap = Failing::refusing_from(alloc, requests::<C>(alloc, given)?.saturating_add(1));
     match C::outcome(alloc, &heap, call, given) {
@@ -32,7 +33,7 @@ fn without_memory<C: Calls + Loads>(alloc: Global, call: &str, given: &[u8]) -> 
     }
 }
 
-/// What comes of a row of a text and of what is wanted, whose kind is the name of a call.
+/// Returns the result of a row of a text and the expected text. The kind of the row is the name of a call.
 pub fn without_row<C: Calls + Loads>(alloc: Global, kind: &str, parts: &[Term]) -> Option<Vec<u8>> {
     let [given, _] = parts else {
         return None;

@@ -1,8 +1,8 @@
-//! Streams for tests of commands: readers that fail or give little, writers that fail or hold back, and inputs that
-//! several tests read.
+//! Streams for tests of commands: readers that fail or give a byte at a time, writers that fail or hold bytes back, and
+//! inputs that several tests read.
 //!
-//! - `readers`, `writers`: each is a value whose fields say how it goes.
-//! - `inputs`: a code file, and a specification before objects.
+//! - `readers`, `writers`: each is a value whose fields say what it does.
+//! - `inputs`: a code file, and a specification followed by objects.
 #![tactic(auto)]
 
 mod inputs;

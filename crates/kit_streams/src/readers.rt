@@ -1,7 +1,7 @@
 //! Readers over bytes.
 use std::io::{self, ErrorKind, Read};
 
-/// A reader over bytes that fails at its nth call, counted from 1.
+/// A reader over bytes that gives at most 7 at a call. It fails at its nth call, counted from 1, and at later ones.
 #[derive(Drop)]
 pub struct FailingReader<'a> {
     pub bytes: &'a [u8],
@@ -19,7 +19,8 @@ impl<'a> Read for FailingReader<'a> {
     }
 }
 
-/// A reader over blanks and then bytes that gives one at a read, and is interrupted before each where it is to be.
+/// A reader over blanks followed by bytes, which gives one at a call. If it is to be interrupted, it fails as
+/// interrupted before each of them.
 #[derive(Drop)]
 pub struct SlowReader<'a> {
     pub blanks: u32,

@@ -2,28 +2,29 @@
 use std::alloc::Global;
 use std::io::{self, ErrorKind, Write};
 
-/// What a writer does at a call.
+/// What a writer does at the call that fails.
 #[derive(Clone, Copy)]
 pub enum Failure {
-    /// It fails, a flush too.
+    /// The call fails, also if it is a flush.
     Fails,
-    /// It takes nothing of what is written.
+    /// The call writes nothing and returns 0.
     TakesNothing,
-    /// It is interrupted while it is written to.
+    /// The call is interrupted, unless it is a flush.
     IsInterrupted,
 }
 
-/// A writer that takes a byte at a call, and fails at its nth one, counted from 1. A flush is a call where it may fail.
+/// A writer that accepts one byte at a call, except at its nth call, counted from 1. A flush counts as a call only if
+/// `failure` is `Fails`.
 #[derive(Drop)]
 pub struct FailingWriter {
     pub calls_left: u32,
     pub failure: Failure,
-    /// What it has taken.
+    /// The bytes that it accepted.
     pub taken: Vec<u8>,
 }
 
 impl FailingWriter {
-    /// A writer that fails so at this call.
+    /// Returns a writer that fails in this way at the call of this number, counted from 1.
     pub fn new(alloc: Global, call: u32, failure: Failure) -> FailingWriter {
         FailingWriter {
             calls_left: call,
@@ -32,7 +33,7 @@ impl FailingWriter {
         }
     }
 
-    /// Whether its nth call is this one.
+    /// Counts a call, and returns whether it is the one that fails.
     fn is_due(&mut self) -> bool {
         let before = self.calls_left;
         self.calls_left = before.saturating_sub(1);
@@ -62,7 +63,7 @@ impl Write for FailingWriter {
     }
 }
 
-/// A writer that holds what it is given until it is flushed.
+/// A writer that holds the bytes back until it is flushed.
 #[derive(Drop)]
 pub struct HoldingWriter {
     pub held: Vec<u8>,

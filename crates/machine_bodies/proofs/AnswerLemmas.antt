@@ -30,7 +30,7 @@ steps_dropped (suc n) (t ∷ ts) =
     let first : most_steps (t ∷ ts) ≡ length t.body.instructions * suc (most_steps ts) + most_steps ts = refl in
     omega (arith, rest, first)
 
--- of later routines, those behind are fewer
+-- fewer routines, those from m on, make no more steps than those from n on
 steps_behind : (n m : ℕ) (ts : List Routine) → n ≤ m → most_steps (drop m ts) ≤ most_steps (drop n ts)
 steps_behind zero m ts less = steps_dropped m ts
 steps_behind (suc n) zero ts less = absurd (omega (arith, less))
@@ -77,7 +77,7 @@ module _ (p : Program) (main : p.around.number ≡ 0) (typed : IsTyped p) where
       let target = rw to at target in
       (target.ahead, target.inside)
 
-  -- what is counted in a body, where those behind it count at most this
+  -- the count of a body, if those of the bodies after it are within this limit
   body_within : (b : ℕ) → b ≤ length ts → ((r : ℕ) → b < r → r ≤ length ts → slice_index typed.budgets r ≤ most_steps (drop b ts)) → slice_index typed.budgets b ≤ length (body_of p b).instructions * suc (most_steps (drop b ts))
   body_within b inside later = elim (typed.limits.each b (omega arith) inside).reached [
     | inl path ↦ counts path.0 path.1 path.2

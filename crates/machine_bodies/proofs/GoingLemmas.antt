@@ -22,7 +22,7 @@ module _ {A : Type 0} {p : Program} {object : Datum} {current : Activation A} {w
   abbrev o : Outcome
   o = step current.body object (state_of current going.stands.slots)
 
-  -- one instruction is executed, and so many are left
+  -- one instruction is executed, and `left` are left
   turned : (left : ℕ) × (executed + 1 + left ≡ executed + going.left) × EndsFrom p object left (follow p going.body going.states o) going.answer
   turned = by going.left refl going.ends
     where

@@ -23,7 +23,7 @@ module _ (terms : List Datum) (count handed : ℕ) (d : Datum) (some : handed < 
       ∙ ap reverse (sym new ∙ ap (take (count - n)) same ∙ old)
       ∙ reverse-reverse (take handed (stack_at terms count))
 
-  -- what is put below so many is the next from the top
+  -- the value that is put below the top `count` values is the next from the top
   pub handed_more : take (handed + 1) (stack_at after count) ≡ take handed (stack_at terms count) ++ d ∷ []
   handed_more =
       let k = count - handed - 1 in

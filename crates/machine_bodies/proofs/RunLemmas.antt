@@ -53,7 +53,7 @@ module _ (p : Program) (object : Datum) (main : p.around.number ≡ 0) (typed : 
   abbrev Fits : (b : ℕ) → b ≤ length p.around.routines → State → Type 0
   Fits b inside s = IsFit (body_of p b) (typed.bodies b inside).0 s
 
-  -- a body runs so many steps to its end with this, whichever bodies wait
+  -- a body makes `steps` steps to its end with this result, whichever bodies wait
   pub record Leads (b : ℕ) (s : State) (steps : ℕ) (o : Option Datum) : Type 0 where
     pub good : IsResult (routine_at p b) o
     pub leads : (ws : List Activation) (n m : ℕ) (a : Option Datum) → m ≡ steps + n
@@ -89,7 +89,7 @@ module _ (p : Program) (object : Datum) (main : p.around.number ≡ 0) (typed : 
     gone_on pc (Leaves o) on = absurd on
     gone_on pc Stuck on = absurd on
 
-    -- behind a routine that was invoked
+    -- the run after a routine that was invoked
     behind : ((r : ℕ) → b < r → r ≤ length p.around.routines → FinishesAll r) → (pc r : ℕ) (arguments : List Datum) (t : State) → Waits (body_of p b) (typed.bodies b inside).0 pc r arguments t
         → (steps : ℕ) × (o : Option Datum) × (v : State) × (pc < v.pc) × Fits b inside v
         × ((ws : List Activation) (n m : ℕ) (a : Option Datum) → m ≡ steps + n → EndsFrom p object n (Running (record { body = b; state = v }) ws) a
@@ -109,7 +109,7 @@ module _ (p : Program) (object : Datum) (main : p.around.number ≡ 0) (typed : 
               ran.2.leads (record { body = b; state = t } ∷ ws) n m a is (subst (λ u. EndsFrom p object n (follow p b ws u) a) (sym on.1) ends),
         )
 
-  -- a routine ends, where those behind it do: each step goes forward, so the instructions that are left run out
+  -- a routine ends if those after it do: each step goes forward, so the instructions that are left run out
   finish_left : (b : ℕ) (inside : b ≤ length p.around.routines) → 0 < b → ((r : ℕ) → b < r → r ≤ length p.around.routines → FinishesAll r)
       → (most : ℕ) (s : State) → Fits b inside s → length (body_of p b).instructions ≤ s.pc + most → Finishes b s
   finish_left b inside some later zero s fits left = absurd (omega (arith, fits.inside, left))

@@ -81,7 +81,7 @@ module _ {A : Type 0} {act : Activation A} (stands : Stands act) (object : Datum
       let count = stack_height act.stack.terms act.height stands.within in
       rw (joined_length act.cells (stack_at act.stack.terms act.height) (omega (arith, stands.deep, count)), count) at room
 
-  -- where the outcome is a state of the same body, and places hold it, it stands there
+  -- if the outcome is a state of the same body, and places hold it, the activation is in that state
   module _ {new : Activation A} (body : new.body ≡ act.body) (places : length new.stack.terms ≡ length act.stack.terms) where
     pub stands_there : (slots : Bindings) → AreHeld slots new.slots.terms → new.height ≤ length new.stack.terms → new.cells ≤ new.height - 1 → MayJoin new.cells (stack_at new.stack.terms new.height)
         → step act.body object s ≡ Goes (state_of new slots) → GoesTo new (step act.body object s)
@@ -146,7 +146,7 @@ module _ {A : Type 0} {act : Activation A} (stands : Stands act) (object : Datum
           let lands = jump_lands act.body new.pc new.stack.terms height new.height found.0 within depth (λ stuck. unstuck (sym found.2 ∙ stuck)) in
           stands_there body places found.0 found.1 (omega (arith, lands.0, within)) (omega (arith, fresh)) (rw fresh tt) (rw fresh (sym found.2 ∙ lands.1))
 
-  -- where one more cell is asked for
+  -- the activation if one more cell becomes pending
   pub came_asked : {new : Activation A} → new.body ≡ act.body → new.stack.terms ≡ act.stack.terms → new.slots.terms ≡ act.slots.terms → new.pc ≡ act.pc + 1 → new.height ≡ act.height → new.cells ≡ act.cells + 1
       → (target : ℕ) → slice_get act.body.instructions act.pc ≡ Some (instr.MakeCons target) → MayJoin (act.cells + 1) (stack_at act.stack.terms act.height) → GoesTo new (step act.body object s)
   came_asked {new} body terms held pc height cells target found may =
@@ -159,7 +159,7 @@ module _ {A : Type 0} {act : Activation A} (stands : Stands act) (object : Datum
   pub at_instr : act.pc < length act.body.instructions
   at_instr = stands.fits.inside
 
--- the cells that were asked for are made, and it stands in the same state
+-- the pending cells are made, and the activation is in the same state
 pub settled_stands : {A : Type 0} {old new : Activation A} → new.body ≡ old.body → IsSettled old new → (stands : Stands old) → (after : Stands new) × (state_of new after.slots ≡ state_of old stands.slots)
 settled_stands {A} {old} {new} body settled stands = (
   record {
@@ -231,7 +231,7 @@ module _ {A : Type 0} {act : Activation A} (stands : Stands act) (object : Datum
           tested true on = (refl, on)
           tested false on = absurd on
 
--- a routine that was entered stands at its beginning
+-- a routine that was entered is at its beginning
 module _ {A : Type 0} {p : Program} {new : Activation A} (fresh : IsNew p new) (seen : IsSeen p) (arguments : List Datum) (are : AreOf (reverse (arguments_of (own_routine p))) arguments) where
   typed : HasDepth new.body (length new.stack.terms)
   typed = fresh.typed seen

@@ -68,7 +68,7 @@ module _ (p : Program) (object : Datum) (x : Option Datum) (budgets : List ℕ) 
   lost_ends zero ends = ends
   lost_ends (suc n) ends = ends
 
-  -- each body that waits stands at an instruction that invokes a routine
+  -- each body that waits is at an instruction that invokes a routine
   abbrev AreInvoking : List Activation → Type 0
   AreInvoking [] = Unit {0}
   AreInvoking (w ∷ ws) =
@@ -82,7 +82,7 @@ module _ (p : Program) (object : Datum) (x : Option Datum) (budgets : List ℕ) 
       (first : ℕ) × (path : List ℕ) × (more : ℕ) × HasEdge (body_of p w.body) w.state.pc first × IsPathFrom (body_of p w.body) first path
       × Rest ws more × (total ≡ counted (body_of p w.body) budgets path + more)
 
-  -- a path of the body that runs, and what is left of those that wait, count at least so many instructions
+  -- a path of the body that runs, and what is left of those that wait, count at least n instructions
   abbrev Walk : ℕ → Activation → List Activation → Type 0
   Walk n a ws =
       (path : List ℕ) × (total : ℕ) × IsPathFrom (body_of p a.body) a.state.pc path × Rest ws total

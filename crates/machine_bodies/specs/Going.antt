@@ -20,8 +20,8 @@ AreWaiting p b (act ∷ acts) (w ∷ ws) =
     × AreWaiting p w.body acts ws
 AreWaiting p b acts ws = ⊥
 
--- The run of the code on an object has executed so many instructions, stands in this body, and these wait, the nearest
--- last. It is the one that there is, which executes so many instructions in all, and ends so.
+-- The run of the code for an object has executed `executed` instructions, is in this body, and these wait, the nearest
+-- last. It is the only run that there is, and `left` more instructions lead to its answer.
 pub record Going {A : Type 0} (p : Program) (object : Datum) (current : Activation A) (waiting : List (Activation A)) (executed : ℕ) : Type 0 where
   pub body : ℕ
   pub states : List run.Activation

@@ -32,7 +32,7 @@ pub record HasDepth (p : Program) (room : ℕ) : Type 0 where
 abbrev pub state_of : {A : Type 0} → Activation A → Bindings → State
 state_of act slots = state_at act.pc (joined act.cells (stack_at act.stack.terms act.height)) slots
 
--- it stands in a state that fits its body, with room for whatever comes
+-- the activation is in a state that fits its body, with room for whatever comes
 pub record Stands {A : Type 0} (act : Activation A) : Type 0 where
   pub slots : Bindings
   pub are : AreHeld slots act.slots.terms
@@ -61,7 +61,7 @@ pub record IsSettled {A : Type 0} (old new : Activation A) : Type 0 where
   pub stack : stack_at new.stack.terms new.height
       ≡ joined old.cells (stack_at old.stack.terms old.height)
 
--- an outcome is that it goes on, and it stands there
+-- the outcome is that the activation continues, in its state
 abbrev pub GoesTo : {A : Type 0} → Activation A → Outcome → Type 0
 GoesTo act o = (stands : Stands act) × (o ≡ Goes (state_of act stands.slots))
 
@@ -93,7 +93,7 @@ pub record IsWaiting {A : Type 0} (t : Option Routine) (act : Activation A) (s :
   pub goes : (o : Option Datum) → IsResult t o
       → GoesOn act.body typed.shapes act.pc (resumed act.body s o)
 
--- an outcome is that this routine is entered, which stands at its beginning, and the other waits for it
+-- the outcome is that this routine is entered, which is at its beginning, and the other activation waits for it
 pub record IsInvoked {A : Type 0} (r : ℕ) (waits entered : Activation A) (o : Outcome) : Type 0 where
   pub arguments : List Datum
   pub state : State

@@ -25,7 +25,7 @@ pub(crate) struct Activation<'a, 'h, A: Allocator> {
     cells: u16,
 }
 
-/// Moves so many values from the top of one stack to the bottom of another.
+/// Moves the top `count` values of one stack to the bottom of another.
 fn hand_over<'a, 'h, A: Allocator + Copy>(
     from: &mut Places<'a, 'h, INLINE_PLACES, A>,
     height: u16,
@@ -122,7 +122,7 @@ impl<'a, 'h, A: Allocator + Copy> Activation<'a, 'h, A> {
         self.execute(code, object, instr)
     }
 
-    /// The same where no cell was asked for.
+    /// Executes an instruction that stays inside the body, with no cell pending. Fails if an allocation fails.
     fn execute(
         &mut self,
         code: &'a Verified<A>,

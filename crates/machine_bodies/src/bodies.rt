@@ -1,4 +1,4 @@
-//! Runs over all bodies of code. The bodies that wait stand in a list, so that a run takes no stack for them.
+//! Runs over all bodies of code. The bodies that wait are in a list, so that a run needs no stack for them.
 ghost use Rattle.std.specs.Prelude.{◌≡◌, IfOk};
 ghost use Rattle.term_core.specs.Datum.{Datum};
 ghost use Rattle.mcode.specs.Run.{HasRun};
@@ -148,9 +148,9 @@ fn begin<'a, 'h, A: Allocator + Copy>(
     })
 }
 
-/// Runs verified code on an object, from the first instruction of its main body, through all bodies that are invoked:
-/// gives the answer, none where the run ends without one, and how many instructions were executed, in whichever body.
-/// Each body that is entered takes places of its own. Fails for want of memory alone.
+/// Runs verified code for an object, from the first instruction of its main body, through all bodies that are invoked.
+/// Returns the answer, `None` if the run ends without one, and the number of instructions executed in all bodies. Each
+/// body that is entered has places of its own. Fails only if an allocation fails.
 pub fn run_bodies<'a, A: Allocator + Copy>(
     alloc: A,
     code: &'a Verified<A>,

@@ -68,7 +68,8 @@ pub fn keys_of<A: Allocator + Copy>(
     elements_of(alloc, list)
 }
 
-/// Each of these keys with the value that stands at its place.
+/// Returns the pairs of keys and values, where the value of a key is at the key's position. Fails if an allocation
+/// fails.
 fn pairs_of<A: Allocator + Copy>(
     alloc: A,
     keys: Vec<Term<A>, A>,

@@ -79,7 +79,7 @@ impl<'a, 'h, const N: usize, A: Allocator + Copy> Places<'a, 'h, N, A> {
         Ok(())
     }
 
-    /// What asks for memory.
+    /// Returns the allocator.
     #[inline(always)]
     pub fn heap(&self) -> &'h A {
         *self.places.allocator()

@@ -18,7 +18,7 @@ use term_build::make_tuple;
 use term_core::Term;
 use term_operand::Value;
 
-/// Goes on where a test holds, else jumps, with so many places taken.
+/// Returns `Next` if a test holds, else a jump to `otherwise`, each with `height` places in use.
 #[inline(always)]
 fn jump_unless(holds: bool, height: u16, otherwise: u16) -> Flow
     ensures flow { (terms : List Datum) → Leads result terms
@@ -32,8 +32,8 @@ fn jump_unless(holds: bool, height: u16, otherwise: u16) -> Flow
     }
 }
 
-// What answers a flow is inlined into the machine's loop. What is large stands in functions of its own, which answer no
-// flow: a loop that grew too large would not be inlined, and a flow that a call answers is written to memory.
+// What returns a flow is inlined into the machine's loop. Large parts are separate functions, which return no flow: a
+// loop that grew too large would not be inlined, and a flow that a call returns is written to memory.
 impl<'a, 'h, const N: usize, A: Allocator + Copy> Places<'a, 'h, N, A> {
     ghost use Rattle.std.specs.Prelude.{ℕ, ◌≡◌, ◌<◌, ◌≤◌, ◌-◌, ◌+◌, ◌∷◌, List, Some, IsTrue, IsSome, IsOk, IsOkAnd, IfOk, OnOk, IfSome, length, take, drop, map, reverse};
     ghost use Rattle.std.specs.Option.{option_map};
@@ -47,7 +47,7 @@ impl<'a, 'h, const N: usize, A: Allocator + Copy> Places<'a, 'h, N, A> {
     ghost use Rattle.term_operand.specs.Value.{value_datum, is_borrowed, all};
     ghost use Rattle.machine_stack.specs.Stack.{stack_at};
 
-    /// Puts a value on top of so many places, and goes on.
+    /// Pushes a value on top of `height` places, and continues with the next instruction.
     #[inline(always)]
     pub fn push(&mut self, height: u16, place: Value<'a, A>) -> Flow
         requires { height < length self.old.terms }
@@ -62,7 +62,7 @@ impl<'a, 'h, const N: usize, A: Allocator + Copy> Places<'a, 'h, N, A> {
         Flow::Next(height + 1)
     }
 
-    /// Puts a value on top of so many places and goes on where there is one, else jumps.
+    /// Pushes a value on top of `height` places and continues with the next instruction, or jumps if there is none.
     #[inline(always)]
     pub fn push_or_jump(&mut self, height: u16, place: Option<Value<'a, A>>, otherwise: u16) -> Flow
         requires { height < length self.old.terms }
@@ -80,7 +80,7 @@ impl<'a, 'h, const N: usize, A: Allocator + Copy> Places<'a, 'h, N, A> {
         }
     }
 
-    /// The top of so many places.
+    /// Returns the value at the top of `height` places.
     #[inline(always)]
     pub fn top(&self, height: u16) -> &Value<'a, A>
         requires some { 0 < height }
@@ -92,7 +92,7 @@ impl<'a, 'h, const N: usize, A: Allocator + Copy> Places<'a, 'h, N, A> {
         self.get(usize::from(height) - 1)
     }
 
-    /// Takes the top of so many places.
+    /// Takes the value at the top of `height` places.
     #[inline(always)]
     pub fn pop(&mut self, height: u16) -> Value<'a, A>
         requires some { 0 < height }
@@ -106,7 +106,7 @@ impl<'a, 'h, const N: usize, A: Allocator + Copy> Places<'a, 'h, N, A> {
         self.take(usize::from(height) - 1)
     }
 
-    /// So many places at the top of so many, from the lowest.
+    /// Returns the top `count` of `height` places, from the lowest.
     #[inline(always)]
     fn top_places(&self, height: u16, count: u16) -> &[Value<'a, A>]
         requires deep { count ≤ height }
@@ -206,7 +206,7 @@ impl<'a, 'h, const N: usize, A: Allocator + Copy> Places<'a, 'h, N, A> {
         Ok(self.push(height - 1, tail))
     }
 
-    /// Puts the value of a key in the place of a map, or jumps.
+    /// Replaces a map by the value of a key, or jumps if the map has no such key. Fails if an allocation fails.
     #[inline(always)]
     pub fn value(
         &mut self,
@@ -287,7 +287,8 @@ impl<'a, 'h, const N: usize, A: Allocator + Copy> Places<'a, 'h, N, A> {
         self.push_or_jump(height - 2, value, otherwise)
     }
 
-    /// What a function gives of so many values at the top; none where the call fails. Few borrowed ones take no memory.
+    /// Returns the result of a function for the top `count` values, or `None` if the call fails. At most 16 borrowed
+    /// values need no memory. Fails if an allocation fails.
     #[inline(never)]
     fn called(
         &self,
@@ -309,7 +310,7 @@ impl<'a, 'h, const N: usize, A: Allocator + Copy> Places<'a, 'h, N, A> {
         }
     }
 
-    /// Puts what a function gives in the place of its arguments, or jumps.
+    /// Replaces the arguments by the result of a function, or jumps if the call fails. Fails if an allocation fails.
     #[inline(always)]
     pub fn call(
         &mut self,
@@ -333,7 +334,7 @@ impl<'a, 'h, const N: usize, A: Allocator + Copy> Places<'a, 'h, N, A> {
         Ok(self.push_or_jump(height - arguments, value, otherwise))
     }
 
-    /// Takes so many values from the top as terms, and gives them from the lowest.
+    /// Takes the top `count` values as terms, from the lowest. Fails if an allocation fails.
     #[inline(never)]
     pub(crate) fn take_terms(
         &mut self,
@@ -357,7 +358,7 @@ impl<'a, 'h, const N: usize, A: Allocator + Copy> Places<'a, 'h, N, A> {
         Ok(terms)
     }
 
-    /// Puts a tuple in the place of its elements, or jumps.
+    /// Replaces elements by the tuple of them, or jumps if it exceeds a limit of terms. Fails if an allocation fails.
     #[inline(always)]
     pub fn make_tuple(&mut self, height: u16, size: u16, otherwise: u16) -> Result<Flow, AllocError>
         requires deep { size ≤ height }
@@ -374,7 +375,8 @@ impl<'a, 'h, const N: usize, A: Allocator + Copy> Places<'a, 'h, N, A> {
         Ok(self.push_or_jump(height - size, tuple, otherwise))
     }
 
-    /// Puts a list in the place of its head and its tail, or jumps.
+    /// Replaces a head and a tail by the list of them, or jumps if it exceeds a limit of terms. Fails if an allocation
+    /// fails.
     #[inline(always)]
     pub fn make_list(&mut self, height: u16, otherwise: u16) -> Result<Flow, AllocError>
         requires two { 2 ≤ height }
@@ -391,7 +393,8 @@ impl<'a, 'h, const N: usize, A: Allocator + Copy> Places<'a, 'h, N, A> {
         Ok(self.push_or_jump(height - 2, list, otherwise))
     }
 
-    /// Puts a map of the keys that a constant lists in the place of its values, or jumps.
+    /// Replaces values by the map of the keys that a constant lists to these values, or jumps if it exceeds a limit of
+    /// terms. Fails if an allocation fails.
     #[inline(always)]
     pub fn make_map(
         &mut self,

@@ -44,9 +44,9 @@ fn looking<'a, 'h, A: Allocator + Copy>(
     }
 }
 
-/// Executes an instruction that puts what it computes in the place of its operands, or leaves all places as they are,
-/// and says where it leads, in any code with these constants.
-// Two functions in the place of one of all arms, which takes a fifth longer to prove.
+/// Executes an instruction that replaces its operands by what it computes, or leaves all places as they are. Returns
+/// where it leads, in any code with these constants. Fails if an allocation fails.
+// Two functions instead of one with all arms, which takes a fifth longer to prove.
 #[inline(always)]
 fn computing<'a, 'h, A: Allocator + Copy>(
     stack: &mut Places<'a, 'h, INLINE_PLACES, A>,

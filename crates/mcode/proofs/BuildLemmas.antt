@@ -1,4 +1,4 @@
--- What building code comes to.
+-- Building code.
 use Rattle.std.specs.Prelude.{ℕ, zero, suc, ◌≡◌, ◌-◌, ◌<◌, ◌≤◌, Result, Ok, Err, is_ok, if◌then◌else◌, Option, Some, None, ⊤, List, [], ◌∷◌, ◌++◌, All, length, get_or, set}
 use Rattle.std.proofs.Common.{ap, ap₂, arith, refl, sym, subst, ◌∙◌}
 use Rattle.std.proofs.lemmas.List.{length-append, nil_from_length}
@@ -9,7 +9,7 @@ use Rattle.mcode.specs.Program.{Program, Body, Routine, most_parts, most_routine
 use Rattle.mcode.specs.Building.{with_body_at, with_last_body, with_routine, main_of, finished, finished_from, begun, IsBegun, IsRoutineTooMuch, empty_body, one_routine_more, with_body, with_stored}
 use Rattle.mcode.specs.declared.kind.Kind.{Kind}
 
--- code of a body and routines that are such
+-- code with a body and routines that satisfy their conditions is whole
 pub code_whole : (cs : List Datum) (b : Body) (ts : List Routine) → length cs ≤ most_parts → IsBody b → length ts ≤ most_routines → All IsRoutine ts → IsWhole (code_of cs b ts)
 code_whole cs b ts few body count routines = record {
   seen =
@@ -20,15 +20,15 @@ code_whole cs b ts few body count routines = record {
   routines = routines;
 }
 
--- the body that is seen
+-- the body that is viewed satisfies its conditions
 pub body_whole : (p : Program) → IsProgram p → IsBody (seen_body p)
 body_whole p h = record { slots = h.slots; instructions = h.instructions; frame_count = h.frame_count; frames = h.frames }
 
--- one routine more
+-- routines with one more satisfy their conditions
 pub routines_more : (ts : List Routine) (t : Routine) → All IsRoutine ts → IsRoutine t → All IsRoutine (ts ++ t ∷ [])
 routines_more ts t all one = All-append IsRoutine ts (t ∷ []) all (All-cons IsRoutine t [] one (All-nil IsRoutine))
 
--- what is seen of whole code is a program
+-- whole code viewed from a body is a program
 pub seen_program : (p : Program) (n : ℕ) (t : Option Routine) → IsSeenBy p n t → IsProgram (seen_by p n t)
 seen_program p n None h = h.whole.seen
 seen_program p zero (Some t) h = absurd (none-some t h.routine)
@@ -43,7 +43,7 @@ seen_program p (suc n) (Some t) h =
       frames = one.body.frames;
     }
 
--- a routine that is given another body
+-- replacing the body of one routine keeps the conditions of all
 pub body_set : (ts : List Routine) (n : ℕ) (b : Body) (old new : Routine) → n < length ts → old ≡ get_or ts n old → new ≡ routine_of old.arguments old.result b → set ts n new ≡ with_body_at ts n b
 body_set [] n b old new inside was is = absurd (omega (arith, inside))
 body_set (t ∷ ts) zero b old new inside was is =
@@ -51,7 +51,7 @@ body_set (t ∷ ts) zero b old new inside was is =
 body_set (t ∷ ts) (suc n) b old new inside was is =
     ap (λ xs. t ∷ xs) (body_set ts n b old new (omega (arith, inside)) was is)
 
--- the last
+-- replacing the body at the last place replaces the last body
 pub last_stored : (ts : List Routine) (n : ℕ) (b : Body) → length ts ≡ suc n → with_body_at ts n b ≡ with_last_body ts b
 last_stored [] n b is = absurd (omega (arith, is))
 last_stored (t ∷ []) zero b is = refl
@@ -60,7 +60,7 @@ last_stored (t ∷ t' ∷ ts) zero b is = absurd (omega (arith, is))
 last_stored (t ∷ t' ∷ ts) (suc n) b is =
     ap (λ xs. t ∷ xs) (last_stored (t' ∷ ts) n b (omega (arith, is)))
 
--- the last before one more
+-- replacing the body before the last routine replaces the last body of those before it
 pub stored_before : (ts : List Routine) (n : ℕ) (b : Body) (more : Routine) → length ts ≡ suc n → with_body_at (ts ++ more ∷ []) n b ≡ with_last_body ts b ++ more ∷ []
 stored_before [] n b more is = absurd (omega (arith, is))
 stored_before (t ∷ []) zero b more is = refl
@@ -69,26 +69,26 @@ stored_before (t ∷ t' ∷ ts) zero b more is = absurd (omega (arith, is))
 stored_before (t ∷ t' ∷ ts) (suc n) b more is =
     ap (λ xs. t ∷ xs) (stored_before (t' ∷ ts) n b more (omega (arith, is)))
 
--- as many as before
+-- replacing the last body does not change the number of routines
 pub as_many : (ts : List Routine) (b : Body) → length (with_last_body ts b) ≡ length ts
 as_many [] b = refl
 as_many (t ∷ []) b = refl
 as_many (t ∷ t' ∷ ts) b = ap suc (as_many (t' ∷ ts) b)
 
--- the last of some is given its body
+-- replacing the last body replaces the body of the routine appended last
 pub last_given : (ts : List Routine) (t : Routine) (b : Body) → with_last_body (ts ++ t ∷ []) b ≡ ts ++ routine_of t.arguments t.result b ∷ []
 last_given [] t b = refl
 last_given (t' ∷ []) t b = refl
 last_given (t' ∷ t'' ∷ ts) t b = ap (λ xs. t' ∷ xs) (last_given (t'' ∷ ts) t b)
 
--- what a push leaves
+-- the routines after a push, whether or not it failed
 pub routines_pushed : {E : Type 0} (r : Result ⊤ E) (ts us : List Routine) (t : Routine) → us ≡ (if is_ok r then ts ++ t ∷ [] else ts) → length ts < most_routines → All IsRoutine ts → IsRoutine t → (length us ≤ most_routines) × All IsRoutine us
 routines_pushed (Ok x) ts us t is few all one =
     (omega (arith, few, ap length is, length-append ts (t ∷ [])), subst (All IsRoutine) (sym is) (routines_more ts t all one))
 routines_pushed (Err e) ts us t is few all one =
     (omega (arith, few, ap length is), subst (All IsRoutine) (sym is) all)
 
--- where there is a main body beside the code, a routine is begun
+-- if there is a separate main body, a routine was begun
 pub some_begun : (p : Program) (main : Option Body) (b : Body) → main ≡ Some b → IsBegun p main → 0 < length p.around.routines
 some_begun p main b is begun = by p.around.routines refl
   where
@@ -96,7 +96,7 @@ some_begun p main b is begun = by p.around.routines refl
     by [] none = absurd (none-some b (sym (begun.1 none) ∙ is))
     by (t ∷ ts) some = omega arith
 
--- the code that was built, where the main body stands beside it
+-- the code that was built, if there is a separate main body
 pub finished_some : (p q r : Program) (main : Option Body) (b newest : Body) → main ≡ Some b → q ≡ with_body p b → newest ≡ seen_body p → IsBegun p main → r ≡ with_stored q (length p.around.routines - 1) newest → r ≡ finished (begun p main)
 finished_some p q r main b newest is exchanged old begun_is stored =
     let some = some_begun p main b is begun_is in
@@ -106,13 +106,13 @@ finished_some p q r main b newest is exchanged old begun_is stored =
     ∙ ap (code_of p.constants b) (last_stored p.around.routines (length p.around.routines - 1) (seen_body p) (omega (arith, some)))
     ∙ ap (λ o. finished (begun p o)) (sym is)
 
--- where none does
+-- the code that was built, if there is no separate main body
 pub finished_none : (p : Program) (main : Option Body) → main ≡ None → IsWhole p → IsBegun p main → p ≡ finished (begun p main)
 finished_none p main is whole begun_is =
     (λ i. record { slots = p.slots; constants = p.constants; instructions = p.instructions; frames = p.frames; around = record { number = (whole.number ∙ sym (ap length (begun_is.0 is))) i; main = (whole.main ∙ sym is) i; routines = p.around.routines } })
     ∙ ap (λ o. finished_from (begun p main) o) (sym is)
 
--- a first routine that is begun
+-- the code after a first routine was begun
 pub first_begun : (p q r : Program) (main : Option Body) (arguments : List Kind) (gives : Kind) (slots : ℕ) (seen : Body) → IsBegun p main → length p.around.routines ≡ 0 → q ≡ one_routine_more p (routine_of arguments gives (empty_body slots)) → r ≡ with_body q (empty_body slots) → seen ≡ seen_body q → begun r (Some seen) ≡ with_routine (begun p main) arguments gives slots
 first_begun p q r main arguments gives slots seen begun_is none pushed exchanged old =
     let t = routine_of arguments gives (empty_body slots) in
@@ -122,7 +122,7 @@ first_begun p q r main arguments gives slots seen begun_is none pushed exchanged
     ∙ ap (λ ts. begun (code_of p.constants (empty_body slots) (ts ++ t ∷ [])) (Some (seen_body p))) empty
     ∙ ap₂ (λ (ts : List Routine) o. seen_from p (empty_body slots) (record { number = suc (length ts); main = Some (main_of o (seen_body p)); routines = with_last_body ts (seen_body p) ++ t ∷ [] })) (sym empty) (sym (begun_is.1 empty))
 
--- a further one
+-- the code after a further routine was begun
 pub next_begun : (p q r s : Program) (main : Option Body) (arguments : List Kind) (gives : Kind) (slots n : ℕ) (seen : Body) → IsBegun p main → length p.around.routines ≡ suc n → q ≡ one_routine_more p (routine_of arguments gives (empty_body slots)) → r ≡ with_body q (empty_body slots) → seen ≡ seen_body q → s ≡ with_stored r n seen → (begun s main ≡ with_routine (begun p main) arguments gives slots) × IsBegun s main × (length s.around.routines ≡ suc (length p.around.routines))
 next_begun p q r s main arguments gives slots n seen begun_is some pushed exchanged old stored =
     let t = routine_of arguments gives (empty_body slots) in
@@ -148,7 +148,7 @@ next_begun p q r s main arguments gives slots n seen begun_is some pushed exchan
     kept None none = absurd (none_length (begun_is.0 none))
     kept (Some b) is = is ∙ ap (λ o. Some (main_of o (seen_body p))) (sym is)
 
--- too much of the same
+-- a routine that is too much for a number of routines is too much for an equal number
 pub still_too_much : (n m : ℕ) (xs ys : List Kind) (slots : ℕ) → n ≡ m → xs ≡ ys → IsRoutineTooMuch n xs slots → IsRoutineTooMuch m ys slots
 still_too_much n m xs ys slots same alike much =
     subst (λ k. IsRoutineTooMuch k ys slots) same (subst (λ ks. IsRoutineTooMuch n ks slots) alike much)

@@ -1,4 +1,4 @@
--- Lists whose numbers rise, and one more at their end.
+-- Lists in ascending order of numbers, and one more at their end.
 use Rattle.std.specs.Prelude.{ℕ, zero, suc, ◌≡◌, ◌≢◌, ◌+◌, ◌-◌, ◌<◌, cond, Bool, true, false, nat_eq, List, [], ◌∷◌, ◌++◌, length, map, Some, None, slice_get, All}
 use Rattle.std.proofs.Common.{arith, get_or, refl, sym, ap, subst, ◌∙◌, inl, inr}
 use Rattle.std.proofs.lemmas.Bool.{eq-eqb, eqb-true, ne_eqb, cases_lt}
@@ -18,13 +18,13 @@ use Rattle.mcode.specs.Frame.{frame_of}
 use Rattle.mcode.specs.declared.frame.Frame.{Frame}
 use Rattle.mcode.specs.Program.{Rise, with_number, frame_number, frame_at}
 
--- the rest of what rises rises
+-- the rest of an ascending list is ascending
 pub rise_rest : {X : Type 0} (number : X → ℕ) (x : X) (xs : List X) → Rise number (x ∷ xs) → Rise number xs
 rise_rest number x xs up j d within =
     let later = up (suc j) d (omega arith) in
     simp unary_clauses (simp unary_clauses at later)
 
--- one more above the last
+-- an ascending list with one more above its last is ascending
 pub rise_more : {X : Type 0} (number : X → ℕ) (xs : List X) (y : X) → Rise number xs → ((n : ℕ) (d : X) → length xs ≡ suc n → number (get_or xs n d) < number y) → Rise number (xs ++ y ∷ [])
 rise_more number [] y up last k d within = absurd (omega arith)
 rise_more number (x ∷ []) y up last zero d within = last zero d (omega arith)
@@ -34,7 +34,7 @@ rise_more number (x ∷ x' ∷ xs) y up last (suc k) d within =
     let later = rise_more number (x' ∷ xs) y (rise_rest number x (x' ∷ xs) up) (λ n e is. last (suc n) e (ap suc is)) k d (omega arith) in
     simp unary_clauses (simp unary_clauses at later)
 
--- the last of those before stands below
+-- the last element before one more is below it
 pub rise_last : {X : Type 0} (number : X → ℕ) (xs : List X) (y : X) (n : ℕ) (d : X) → Rise number (xs ++ y ∷ []) → length xs ≡ suc n → number (get_or xs n d) < number y
 rise_last number [] y n d up is = absurd (omega (arith, is))
 rise_last number (x ∷ []) y zero d up is = up zero d (omega arith)
@@ -43,24 +43,24 @@ rise_last number (x ∷ x' ∷ xs) y zero d up is = absurd (omega (arith, is))
 rise_last number (x ∷ x' ∷ xs) y (suc n) d up is =
     rise_last number (x' ∷ xs) y n d (rise_rest number x (x' ∷ xs ++ y ∷ []) up) (omega (arith, is))
 
--- the last of what is made of each
+-- the last element of a mapped list is the mapped last element
 pub last_of_map : {X Y : Type 0} (f : X → Y) (xs : List X) (x : X) (n : ℕ) (d : Y) → Some x ≡ slice_get xs (length xs - 1) → length (map f xs) ≡ suc n → get_or (map f xs) n d ≡ f x
 last_of_map f xs x n d is long =
     let within = slice_get_within xs (length xs - 1) x (sym is) in
     let same : n ≡ length xs - 1 = omega (arith, long, length-map xs f) in
     rw same (get_or-map-within f xs (length xs - 1) x d within ∙ ap f (get_or_from_slice_get xs (length xs - 1) x x (sym is)))
 
--- there is a last one
+-- a list with a last element is not empty
 pub some_of_last : {X Y : Type 0} (f : X → Y) (xs : List X) (x : X) → Some x ≡ slice_get xs (length xs - 1) → length (map f xs) ≡ suc (length xs - 1)
 some_of_last f xs x is =
     let within = slice_get_within xs (length xs - 1) x (sym is) in
     omega (arith, within, length-map xs f)
 
--- as many frames as there are
+-- there are as many frames as there are of their representations
 pub frame_count : {A : Type 0} (fs : List (Frame A)) → length (map frame_of fs) ≡ length fs
 frame_count fs = length-map fs frame_of
 
--- the first of what rises stands below each later one
+-- the first element of an ascending list is below each later one
 pub rise_first : {X : Type 0} (number : X → ℕ) (x : X) (xs : List X) → Rise number (x ∷ xs) → (i : ℕ) (d : X) → i < length xs → number x < number (get_or xs i d)
 rise_first number x [] up i d within = absurd (omega arith)
 rise_first number x (y ∷ ys) up zero d within = up zero d (omega arith)
@@ -69,7 +69,7 @@ rise_first number x (y ∷ ys) up (suc i) d within =
     let later = rise_first number y ys (rise_rest number x (y ∷ ys) up) i d (omega arith) in
     omega (arith, first, later)
 
--- an element is the only one of its number
+-- an element of an ascending list is the only one with its number
 pub number_found : {X : Type 0} (number : X → ℕ) (xs : List X) (n i : ℕ) (d : X) → Rise number xs → i < length xs → number (get_or xs i d) ≡ n → Some (get_or xs i d) ≡ with_number number xs n
 number_found number [] n i d up within same = absurd (omega arith)
 number_found number (x ∷ xs) n zero d up within same =
@@ -79,23 +79,23 @@ number_found number (x ∷ xs) n (suc i) d up within same =
     number_found number xs n i d (rise_rest number x xs up) (omega arith) same
     ∙ sym (ap (λ b. cond b (Some x) (with_number number xs n)) (ne_eqb (number x) n (λ e. absurd (omega (arith, below, same, e)))))
 
--- none has the number
+-- if no element has a number, none is found
 pub number_missing : {X : Type 0} (number : X → ℕ) (xs : List X) (n : ℕ) → ((j : ℕ) (d : X) → j < length xs → number (get_or xs j d) ≢ n) → None ≡ with_number number xs n
 number_missing number [] n other = refl
 number_missing number (x ∷ xs) n other =
     number_missing number xs n (λ j d within. other (suc j) d (omega arith))
     ∙ sym (ap (λ b. cond b (Some x) (with_number number xs n)) (ne_eqb (number x) n (other zero x (omega arith))))
 
--- how numbers that rise stand to one
+-- the comparisons of ascending numbers with one number are in order
 pub numbers_partition : {X : Type 0} (number : X → ℕ) (xs : List X) (n : ℕ) → Rise number xs → IsNonDecreasingBy (λ y. ordering_index (nat_cmp (number y) n)) xs
 numbers_partition number xs n up =
     searchable_from_sorted nat_cmp_total number xs n (λ k d from within. sym (ap is_lt (nat_cmp_is _ _ Greater (up k d within))))
 
--- what is less or greater isn't the same
+-- a number that is less or greater is not equal
 not_equal : (r : Ordering) (m n : ℕ) → nat_cmp m n ≡ r → r ≢ Equal → m ≢ n
 not_equal r m n stands other same = other (sym stands ∙ sym (nat_cmp_is m n Equal same))
 
--- a place before which all numbers are less and from which on all are greater
+-- a number between a place with only smaller ones before it and only greater ones from there on is not found
 pub number_between : {X : Type 0} (number : X → ℕ) (xs : List X) (n i : ℕ) → IsPartitionPoint (λ y. nat_cmp (number y) n ≡ Less) (λ y. nat_cmp (number y) n ≡ Greater) xs i → None ≡ with_number number xs n
 number_between number xs n i apart =
     number_missing number xs n (λ j d within same. elim (cases_lt j i) [
@@ -103,14 +103,14 @@ number_between number xs n i apart =
       | inr h ↦ absurd (not_equal Greater (number (get_or xs j d)) n (apart.1 j d h within) (λ e. absurd (cc)) same)
     ])
 
--- the frames' numbers, as they rise
+-- the frames are ascending if their representations are
 pub frames_rise : {A : Type 0} (fs : List (Frame A)) → Rise frame_number (map frame_of fs) → Rise (λ f. f.pc) fs
 frames_rise fs up k d within =
     let below = up k (frame_of d) (omega (arith, within, length-map fs frame_of)) in
     let below = rw (get_or-map frame_of fs k d) at below in
     rw (get_or-map frame_of fs (k + 1) d) at below
 
--- a frame that is found, as it is seen
+-- the frame that was found represents the one that is found among the representations
 pub frame_seen : {A : Type 0} (fs : List (Frame A)) (pc : ℕ) → option_map frame_of (with_number (λ f. f.pc) fs pc) ≡ frame_at (map frame_of fs) pc
 frame_seen [] pc = refl
 frame_seen (f ∷ fs) pc = by (nat_eq f.pc pc) (frame_seen fs pc)
@@ -119,7 +119,7 @@ frame_seen (f ∷ fs) pc = by (nat_eq f.pc pc) (frame_seen fs pc)
     by true rest = refl
     by false rest = rest
 
--- what has the number that was looked for
+-- the element that was found has the number that was searched for
 pub number_stands : {X : Type 0} (number : X → ℕ) (xs : List X) (n : ℕ) (x : X) → with_number number xs n ≡ Some x → (number x ≡ n) × ((i : ℕ) × (i < length xs) × (get_or xs i x ≡ x))
 number_stands number [] n x is = absurd (cc)
 number_stands number (y ∷ ys) n x is = by (nat_eq (number y) n) refl is (λ rest. number_stands number ys n x rest)
@@ -130,7 +130,7 @@ number_stands number (y ∷ ys) n x is = by (nat_eq (number y) n) refl is (λ re
         (subst (λ z. number z ≡ n) one (eqb-true (number y) n test), (zero, omega arith, one))
     by false test same rest = let later = rest same in (later.0, (suc later.1.0, omega (arith, later.1.1), later.1.2))
 
--- of two places the earlier has the lower number
+-- of two places of an ascending list the earlier has the lower number
 pub rise_apart : {X : Type 0} (number : X → ℕ) (xs : List X) → Rise number xs → (i j : ℕ) (d : X) → i < j → j < length xs → number (get_or xs i d) < number (get_or xs j d)
 rise_apart number [] up i j d before inside = absurd (omega (arith, inside))
 rise_apart number (x ∷ xs) up zero zero d before inside = absurd (omega (arith, before))
@@ -139,7 +139,7 @@ rise_apart number (x ∷ xs) up (suc i) zero d before inside = absurd (omega (ar
 rise_apart number (x ∷ xs) up (suc i) (suc j) d before inside =
     rise_apart number xs (rise_rest number x xs up) i j d (omega (arith, before)) (omega (arith, inside))
 
--- all are below what the last is below
+-- all elements of an ascending list are below what the last one is below
 pub rise_within : {X : Type 0} (number : X → ℕ) (xs : List X) (x : X) (n : ℕ) → Rise number xs → Some x ≡ slice_get xs (length xs - 1) → number x < n → All (λ y. number y < n) xs
 rise_within number xs x n up is below i d inside = elim (cases_lt i (length xs - 1)) [
   | inl h ↦ let last = get_or_from_slice_get xs (length xs - 1) x d (sym is) in
@@ -150,7 +150,7 @@ rise_within number xs x n up is below i d inside = elim (cases_lt i (length xs -
       rw same (rw (get_or_from_slice_get xs (length xs - 1) x d (sym is)) below)
 ]
 
--- without the last
+-- an ascending list without its last element is ascending
 pub rise_front : {X : Type 0} (number : X → ℕ) (xs : List X) (y : X) → Rise number (xs ++ y ∷ []) → Rise number xs
 rise_front number xs y up i d inside =
     let below = up i d (omega (arith, inside, length-append xs (y ∷ []))) in

@@ -1,10 +1,10 @@
--- What frames and bodies are seen as.
+-- How frames and bodies of the program are represented.
 use Rattle.std.specs.Prelude.{ℕ, List, map}
 use Rattle.mcode.specs.Program as program
 use Rattle.mcode.specs.declared.frame.Frame.{Frame}
 use Rattle.mcode.specs.declared.instr.Instr.{Instr}
 
--- the frame by its fields
+-- the frame with these fields
 abbrev pub frame_of : {A : Type 0} → Frame A → program.Frame
 frame_of f = record { pc = f.pc; depth = f.depth; places = f.places; slots = f.slots }
 

@@ -1,4 +1,4 @@
-//! Code, seen from one of its bodies.
+//! Code, viewed from one of its bodies.
 ghost use Rattle.std.specs.Prelude.{◌≡◌};
 ghost use Rattle.std.specs.Option.{option_copied};
 ghost use Rattle.mcode.specs.Program.{IsWhole, routine_at};
@@ -11,7 +11,7 @@ use std::alloc::{Allocator, Global};
 use std::marker::Model;
 use term_core::Term;
 
-/// The routine of a number, where there is one.
+/// Returns the routine with this number, counted from 1, or `None` if there is none.
 fn routine_of<A: Allocator>(code: &Code<A>, number: u16) -> Option<&Routine<A>>
     ensures value { option_copied result ≡ routine_at code.now number }
     ensures whole { IsWhole code.now }
@@ -25,7 +25,7 @@ fn routine_of<A: Allocator>(code: &Code<A>, number: u16) -> Option<&Routine<A>>
 pub struct Body<'a, A: Allocator = Global> {
     code: &'a Code<A>,
     number: u16,
-    /// None of the main body.
+    /// `None` for the main body.
     routine: Option<&'a Routine<A>>,
 }
 
@@ -50,7 +50,7 @@ impl<'a, A: Allocator> Body<'a, A> {
     ghost use Rattle.mcode.specs.Frame.{frame_of};
     ghost use Rattle.mcode.specs.Program.{IsProgram, body_of, frame_at, routine_at, own_routine};
 
-    /// The body of this number, which has to be there: 0 is the main one, the routines are numbered from 1.
+    /// Returns the body with this number: 0 is the main body, routines are numbered from 1. Requires that it exists.
     pub fn of(code: &'a Code<A>, number: u16) -> Self
         requires { number ≤ length code.now.around.routines }
         ensures { result ≡ body_of code.now number }
@@ -62,14 +62,14 @@ impl<'a, A: Allocator> Body<'a, A> {
         }
     }
 
-    /// The body's number.
+    /// Returns the body's number.
     pub fn number(&self) -> u16
         ensures { result ≡ self.now.around.number }
     {
         self.number
     }
 
-    /// How many slots there are, at most `MAX_SLOTS`.
+    /// Returns the number of slots, at most `MAX_SLOTS`.
     pub fn slots(&self) -> u16
         ensures value { result ≡ self.now.slots }
         ensures within { IsProgram self.now }
@@ -80,7 +80,7 @@ impl<'a, A: Allocator> Body<'a, A> {
         }
     }
 
-    /// The constants, which all bodies share, at most `MAX_COUNT`.
+    /// Returns the constants, which all bodies share, at most `MAX_COUNT`.
     pub fn constants(&self) -> &'a [Term<A>]
         ensures value { result.now ≡ self.now.constants }
         ensures within { IsProgram self.now }
@@ -88,7 +88,7 @@ impl<'a, A: Allocator> Body<'a, A> {
         self.code.constants()
     }
 
-    /// The instructions, at most `MAX_COUNT`.
+    /// Returns the instructions, at most `MAX_COUNT`.
     pub fn instructions(&self) -> &'a [Instr]
         ensures value { result.now ≡ self.now.instructions }
         ensures within { IsProgram self.now }
@@ -99,7 +99,7 @@ impl<'a, A: Allocator> Body<'a, A> {
         }
     }
 
-    /// The frames, by rising number of the instruction, at most `MAX_COUNT`.
+    /// Returns the frames, in ascending order of their instructions, at most `MAX_COUNT`.
     pub fn frames(&self) -> &'a [Frame<A>]
         ensures value { map frame_of result.now ≡ self.now.frames }
         ensures within { IsProgram self.now }
@@ -110,7 +110,7 @@ impl<'a, A: Allocator> Body<'a, A> {
         }
     }
 
-    /// The frame at an instruction, where there is one.
+    /// Returns the frame at an instruction, or `None` if there is none.
     pub fn frame_at(&self, pc: u16) -> Option<&'a Frame<A>>
         ensures value { option_map frame_of (option_copied result) ≡ frame_at self.now.frames pc }
         ensures within { IsProgram self.now }
@@ -121,14 +121,14 @@ impl<'a, A: Allocator> Body<'a, A> {
         }
     }
 
-    /// The routine of a number, where there is one.
+    /// Returns the routine with this number, counted from 1, or `None` if there is none.
     pub fn routine(&self, number: u16) -> Option<&'a Routine<A>>
         ensures { option_copied result ≡ routine_at self.now number }
     {
         routine_of(self.code, number)
     }
 
-    /// The routine that the body is, none where it is the main one.
+    /// Returns the routine of which this is the body, or `None` if it is the main body.
     pub fn own_routine(&self) -> Option<&'a Routine<A>>
         ensures { option_copied result ≡ own_routine self.now }
     {

@@ -1,4 +1,4 @@
-//! Code built part by part.
+//! Building code part by part.
 ghost use Rattle.std.specs.Prelude.{◌≡◌, ◌↔◌, ◌++◌, ◌∷◌, [], IsTrue, IfSome, IfNone, MatchOption, All, map};
 ghost use Rattle.mcode.specs.Frame.{frame_of};
 ghost use Rattle.mcode.specs.Program.{Rise, place_number, frame_number, IsTelling, IsOrdered};
@@ -17,7 +17,7 @@ use std::alloc::{AllocError, Allocator, Global};
 use std::marker::Model;
 use term_core::{Refused, Term};
 
-/// Whether the places rise.
+/// Returns whether the places are in strictly ascending order.
 fn places_rise(places: &[(u16, Kind)]) -> bool
     ensures { IsTrue result ↔ Rise place_number places.now }
 {
@@ -29,14 +29,14 @@ fn places_rise(places: &[(u16, Kind)]) -> bool
     true
 }
 
-/// Whether the kind of each place says something.
+/// Returns whether each place has a kind other than `Kind::Any`.
 fn all_tell(places: &[(u16, Kind)]) -> bool
     ensures { IsTrue result ↔ All IsTelling places.now }
 {
     places.iter().all(|place| place.1 != Kind::Any)
 }
 
-/// Whether the slots rise.
+/// Returns whether the slots are in strictly ascending order.
 fn slots_rise(slots: &[u8]) -> bool
     ensures { IsTrue result ↔ Rise (λ slot. slot) slots.now }
 {
@@ -48,7 +48,7 @@ fn slots_rise(slots: &[u8]) -> bool
     true
 }
 
-/// Whether the places and slots of a frame are in order.
+/// Returns whether the places and slots of a frame are in order, and each place has a kind other than `Kind::Any`.
 fn is_ordered<A: Allocator>(frame: &Frame<A>) -> bool
     ensures { IsTrue result ↔ IsOrdered (frame_of frame.now) }
 {
@@ -57,7 +57,7 @@ fn is_ordered<A: Allocator>(frame: &Frame<A>) -> bool
         && slots_rise(frame.slots.as_slice())
 }
 
-/// Whether a frame stands above the last of these, which rise.
+/// Returns whether a frame is above the last of these, which are in ascending order.
 fn is_above<A: Allocator>(frames: &[Frame<A>], frame: &Frame<A>) -> bool
     requires { Rise frame_number (map frame_of frames.now) }
     ensures { IsTrue result ↔ Rise frame_number
@@ -69,7 +69,7 @@ fn is_above<A: Allocator>(frames: &[Frame<A>], frame: &Frame<A>) -> bool
     }
 }
 
-/// Why a frame can't be added to these, memory aside.
+/// Returns why a frame can't be appended to these, or `None` if nothing but a failed allocation can prevent it.
 #[tactic(auto, using(crate::proofs::RiseLemmas::frame_count))]
 fn frame_fault<A: Allocator>(frames: &[Frame<A>], frame: &Frame<A>) -> Option<Fault>
     requires { Rise frame_number (map frame_of frames.now) }
@@ -93,7 +93,8 @@ fn frame_fault<A: Allocator>(frames: &[Frame<A>], frame: &Frame<A>) -> Option<Fa
     None
 }
 
-/// Why a routine can't be begun behind so many, memory aside.
+/// Returns why a routine can't be begun after this number of routines, or `None` if nothing but a failed allocation can
+/// prevent it.
 fn routine_fault(routines: usize, arguments: &[Kind], slots: u16) -> Option<Fault>
     ensures { MatchOption result (¬ IsRoutineTooMuch routines arguments.now slots)
         (λ fault. (fault ≡ Limit) × IsRoutineTooMuch routines arguments.now slots) }
@@ -110,13 +111,13 @@ fn routine_fault(routines: usize, arguments: &[Kind], slots: u16) -> Option<Faul
     None
 }
 
-/// Code that is built part by part: first the main body, then one routine after the other, and constants at any time.
-/// What is refused leaves it as it was.
+/// Code that is built part by part: first the main body, then one routine after the other, and constants at any time. A
+/// call that fails leaves it unchanged.
 #[derive(Drop)]
 pub struct Builder<A: Allocator = Global> {
-    /// Seen from the newest body; of the last routine the parts are here.
+    /// The code, with the newest body as its main one. The last routine itself has no parts yet.
     code: Code<A>,
-    /// The main body, once a routine is begun.
+    /// The main body, once a routine was begun.
     main: Option<Parts<A>>,
 }
 
@@ -142,7 +143,7 @@ impl<A: Allocator> Builder<A> {
     ghost use Rattle.mcode.specs.Building.{empty_program, with_constant, with_instruction, with_frame, with_routine, finished, IsPartRefused, IsFrameTooMany, IsFrameRefused, IsNextFrame, IsRoutineTooMuch, IsRoutineRefused};
     ghost use Rattle.mcode.specs.declared.fault.Fault.TheVariants.{Limit};
 
-    /// Code without parts, over this many slots. More than `MAX_SLOTS` are refused.
+    /// Starts code without parts, with this number of slots. Fails with `Limit` for more than `MAX_SLOTS`.
     pub fn new(alloc: A, slots: u16) -> Result<Self, Fault>
     where
         A: Copy,
@@ -158,7 +159,8 @@ impl<A: Allocator> Builder<A> {
         })
     }
 
-    /// Adds a constant and answers its number, from 0. More than `MAX_COUNT` are refused.
+    /// Appends a constant and returns its number, counted from 0. Fails with `Limit` if there are `MAX_COUNT` already,
+    /// and with `Memory` if an allocation fails. On failure, hands the constant back.
     pub fn constant(&mut self, term: Term<A>) -> Result<u16, Refused<Term<A>, Fault>>
         ensures ok { IfOk result (λ number. (self.new ≡ with_constant self.old term)
             × (number ≡ length self.old.constants)) }
@@ -182,7 +184,8 @@ impl<A: Allocator> Builder<A> {
         }
     }
 
-    /// Adds an instruction and answers its number, from 0. More than `MAX_COUNT` are refused.
+    /// Appends an instruction to the newest body and returns its number, counted from 0. Fails with `Limit` if there
+    /// are `MAX_COUNT` already, and with `Memory` if an allocation fails.
     pub fn instr(&mut self, instr: Instr) -> Result<u16, Fault>
         ensures ok { IfOk result (λ number. (self.new ≡ with_instruction self.old instr)
             × (number ≡ length self.old.instructions)) }
@@ -200,8 +203,10 @@ impl<A: Allocator> Builder<A> {
         }
     }
 
-    /// Adds a frame, which has to stand above those that are there, with places and slots that rise. More than
-    /// `MAX_COUNT` frames, or places of one, are refused.
+    /// Appends a frame to the newest body. Fails with `Limit` if there are `MAX_COUNT` frames already, or the frame has
+    /// more places. Fails with `FrameOrder` if the frame is not above the last one, its places or slots are not in
+    /// ascending order, or a place has `Kind::Any`. Fails with `Memory` if an allocation fails. On failure, hands the
+    /// frame back.
     pub fn frame(&mut self, frame: Frame<A>) -> Result<(), Refused<Frame<A>, Fault>>
         ensures ok { OnOk result (self.new ≡ with_frame self.old (frame_of frame)) }
         ensures next { OnOk result ((¬ IsFrameTooMany self.old.frames (frame_of frame))
@@ -225,9 +230,10 @@ impl<A: Allocator> Builder<A> {
         }
     }
 
-    /// Begins a routine without parts, of these arguments, the lowest first, which gives this kind, over this many slots,
-    /// and answers its number, from 1. The instructions and frames that are added behind that are the routine's. More than
-    /// `MAX_ROUTINES` routines, `MAX_ARGUMENTS` arguments or `MAX_SLOTS` slots are refused.
+    /// Begins a routine without parts and returns its number, counted from 1. `arguments` are the kinds of its
+    /// arguments, the lowest first, and `gives` is the kind of its result. Instructions and frames appended after that
+    /// belong to it. Fails with `Limit` for more than `MAX_ROUTINES` routines, `MAX_ARGUMENTS` arguments or `MAX_SLOTS`
+    /// slots, and with `Memory` if an allocation fails.
     pub fn routine(
         &mut self,
         arguments: Vec<Kind, A>,
@@ -263,7 +269,7 @@ impl<A: Allocator> Builder<A> {
         Ok(before as u16 + 1)
     }
 
-    /// The code of these parts. It takes no memory.
+    /// Returns the code that was built. Does not allocate.
     pub fn finish(self) -> Code<A>
         ensures { result ≡ finished self }
     {

@@ -1,4 +1,4 @@
-//! Code, of which only the counts and the order of frames are known to be right.
+//! Code. Only its counts and the order of its frames are known to be right.
 use crate::frame::Frame;
 use crate::instr::Instr;
 use crate::parts::Parts;
@@ -9,12 +9,25 @@ use std::mem;
 use term_core::Term;
 
 /// Instructions for the machine, with the constants and frames that they name, and the routines that they invoke.
-#[derive(Drop)]
 pub struct Code<A: Allocator = Global> {
     constants: Vec<Term<A>, A>,
-    /// Of the main body.
+    /// The parts of the main body.
     parts: Parts<A>,
     routines: Vec<Routine<A>, A>,
+}
+
+/// By hand: a function that drops one has one call in its proof, and not a case for each way in which its parts are dropped.
+impl<A: Allocator> Drop for Code<A> {
+    fn drop(self) {
+        let Code {
+            constants,
+            parts,
+            routines,
+        } = self;
+        drop(constants);
+        drop(parts);
+        drop(routines);
+    }
 }
 
 impl<A: Allocator> Model for Code<A> {
@@ -38,7 +51,7 @@ impl<A: Allocator> Code<A> {
     ghost use Rattle.mcode.specs.Program.{IsProgram, IsRoutine, IsWhole, most_slots, most_parts, most_routines, frame_at, seen_body};
     ghost use Rattle.mcode.specs.Building.{empty_program, with_constant, with_instruction, with_frame, with_body, one_routine_more, with_stored, IsFrameTooMany, IsNextFrame};
 
-    /// Code without parts over this many slots.
+    /// Makes code without parts, with this number of slots.
     pub(crate) fn empty(alloc: A, slots: u16) -> Self
     where
         A: Copy,
@@ -52,7 +65,7 @@ impl<A: Allocator> Code<A> {
         }
     }
 
-    /// Puts a constant at the end.
+    /// Appends a constant. On failure, hands it back.
     pub(crate) fn push_constant(&mut self, term: Term<A>) -> Result<(), AllocFailed<Term<A>>>
         requires { length self.old.constants < most_parts }
         ensures ok { OnOk result (self.new ≡ with_constant self.old term) }
@@ -62,7 +75,7 @@ impl<A: Allocator> Code<A> {
         self.constants.push(term)
     }
 
-    /// Puts an instruction at the end of the main body.
+    /// Appends an instruction to the main body.
     pub(crate) fn push_instruction(&mut self, instr: Instr) -> Result<(), AllocError>
         requires { length self.old.instructions < most_parts }
         ensures ok { OnOk result (self.new ≡ with_instruction self.old instr) }
@@ -71,7 +84,7 @@ impl<A: Allocator> Code<A> {
         self.parts.push_instruction(instr)
     }
 
-    /// Puts a frame at the end of the main body, which stands above the others and is in order.
+    /// Appends a frame to the main body. It is above the others and in order. On failure, hands it back.
     pub(crate) fn push_frame(&mut self, frame: Frame<A>) -> Result<(), AllocFailed<Frame<A>>>
         requires fits { ¬ IsFrameTooMany self.old.frames (frame_of frame) }
         requires next { IsNextFrame self.old.frames (frame_of frame) }
@@ -82,7 +95,7 @@ impl<A: Allocator> Code<A> {
         self.parts.push_frame(frame)
     }
 
-    /// Puts a routine at the end.
+    /// Appends a routine.
     pub(crate) fn push_routine(&mut self, routine: Routine<A>) -> Result<(), AllocError>
         requires count { length self.old.around.routines < most_routines }
         requires within { IsRoutine routine }
@@ -95,7 +108,7 @@ impl<A: Allocator> Code<A> {
         }
     }
 
-    /// Exchanges the main body.
+    /// Replaces the main body and returns the old one.
     pub(crate) fn exchange(&mut self, parts: Parts<A>) -> Parts<A>
         ensures code { self.new ≡ with_body self.old parts }
         ensures before { result ≡ seen_body self.old }
@@ -103,7 +116,7 @@ impl<A: Allocator> Code<A> {
         mem::replace(&mut self.parts, parts)
     }
 
-    /// Gives a routine, at this place of all, another body.
+    /// Replaces the body of the routine at this place, counted from 0.
     pub(crate) fn store(&mut self, place: usize, parts: Parts<A>)
         requires { place < length self.old.around.routines }
         ensures { self.new ≡ with_stored self.old place parts }
@@ -111,7 +124,7 @@ impl<A: Allocator> Code<A> {
         drop(self.routines[place].exchange(parts));
     }
 
-    /// How many slots there are, at most `MAX_SLOTS`.
+    /// Returns the number of slots of the main body, at most `MAX_SLOTS`.
     pub fn slots(&self) -> u16
         ensures value { result ≡ self.now.slots }
         ensures within { IsProgram self.now }
@@ -120,7 +133,7 @@ impl<A: Allocator> Code<A> {
         self.parts.slots()
     }
 
-    /// The constants, at most `MAX_COUNT`.
+    /// Returns the constants, at most `MAX_COUNT`.
     pub fn constants(&self) -> &[Term<A>]
         ensures value { result.now ≡ self.now.constants }
         ensures within { IsProgram self.now }
@@ -128,7 +141,7 @@ impl<A: Allocator> Code<A> {
         self.constants.as_slice()
     }
 
-    /// The instructions, at most `MAX_COUNT`.
+    /// Returns the instructions of the main body, at most `MAX_COUNT`.
     pub fn instructions(&self) -> &[Instr]
         ensures value { result.now ≡ self.now.instructions }
         ensures within { IsProgram self.now }
@@ -136,7 +149,7 @@ impl<A: Allocator> Code<A> {
         self.parts.instructions()
     }
 
-    /// The frames, by rising number of the instruction, at most `MAX_COUNT`.
+    /// Returns the frames of the main body, in ascending order of their instructions, at most `MAX_COUNT`.
     pub fn frames(&self) -> &[Frame<A>]
         ensures value { map frame_of result.now ≡ self.now.frames }
         ensures within { IsProgram self.now }
@@ -144,7 +157,7 @@ impl<A: Allocator> Code<A> {
         self.parts.frames()
     }
 
-    /// The routines, numbered from 1, at most `MAX_ROUTINES`.
+    /// Returns the routines, numbered from 1, at most `MAX_ROUTINES`.
     pub fn routines(&self) -> &[Routine<A>]
         ensures value { result.now ≡ self.now.around.routines }
         ensures within { IsWhole self.now }
@@ -152,7 +165,7 @@ impl<A: Allocator> Code<A> {
         self.routines.as_slice()
     }
 
-    /// The frame at an instruction, where there is one.
+    /// Returns the frame at an instruction of the main body, or `None` if there is none.
     pub fn frame_at(&self, pc: u16) -> Option<&Frame<A>>
         ensures value { option_map frame_of (option_copied result) ≡ frame_at self.now.frames pc }
         ensures within { IsProgram self.now }

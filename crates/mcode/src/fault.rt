@@ -5,13 +5,13 @@ use thiserror::Error;
 /// Why a part can't be added to code.
 #[derive(Clone, Copy, Debug, PartialEq, Eq, Error)]
 pub enum Fault {
-    /// No memory was given.
+    /// An allocation failed.
     #[error("out of memory")]
     Memory,
-    /// A count would pass `MAX_COUNT`, or the slots pass `MAX_SLOTS`.
+    /// A count would exceed `MAX_COUNT`, `MAX_SLOTS`, `MAX_ROUTINES` or `MAX_ARGUMENTS`.
     #[error("the code has too many parts of a kind")]
     Limit,
-    /// A frame, a place in it or a slot in it isn't above the one before, or a place is listed with `Kind::Any`.
+    /// A frame, a place in it or a slot in it is not above the one before, or a place is listed with `Kind::Any`.
     #[error("the frame is out of order")]
     FrameOrder,
 }
@@ -21,7 +21,7 @@ impl Fault {
     ghost use Rattle.mcode.specs.FaultNumbers.{number_of};
     ghost use Rattle.mcode.specs.declared.fault.Fault.TheVariants.{Memory};
 
-    /// The number that the fault has in what programs print.
+    /// Returns the number, 1, 36 or 37, that programs print for the fault.
     pub const fn number(self) -> u8
         ensures { result ≡ number_of self }
     {
@@ -32,7 +32,7 @@ impl Fault {
         }
     }
 
-    /// The library's error for want of memory, which the fault has to be.
+    /// Converts `Fault::Memory` into the library's `AllocError`. Requires that the fault is `Fault::Memory`.
     pub fn alloc_error(self) -> AllocError
         requires { self ≡ Memory }
     {

@@ -1,11 +1,11 @@
-//! What is known of the state where jumps lead.
+//! Frames: what is known of the state at an instruction to which jumps lead.
 ghost use Rattle.std.specs.Prelude.{◌≡◌};
 
 use crate::kind::Kind;
 use std::alloc::{Allocator, Global};
 use std::marker::Model;
 
-/// Places of the operand stack, counted from the lowest, with their kinds.
+/// Places of the operand stack, counted from 0 at the bottom, with their kinds.
 #[derive(Drop)]
 pub struct Places<A: Allocator = Global> {
     entries: Vec<(u16, Kind), A>,
@@ -23,21 +23,21 @@ impl<A: Allocator> Model for Places<A> {
 impl<A: Allocator> Places<A> {
     ghost use Rattle.std.specs.Prelude.{◌≡◌};
 
-    /// These places.
+    /// Wraps these places.
     pub const fn new(entries: Vec<(u16, Kind), A>) -> Self
         ensures { result ≡ entries.items }
     {
         Places { entries }
     }
 
-    /// The places as a slice.
+    /// Returns the places as a slice.
     pub fn as_slice(&self) -> &[(u16, Kind)]
         ensures { result.now ≡ self.now }
     {
         self.entries.as_slice()
     }
 
-    /// The places as they were given.
+    /// Returns the places as they were given.
     pub fn into_vec(self) -> Vec<(u16, Kind), A>
         ensures { result.items ≡ self }
     {
@@ -62,21 +62,21 @@ impl<A: Allocator> Model for Slots<A> {
 impl<A: Allocator> Slots<A> {
     ghost use Rattle.std.specs.Prelude.{◌≡◌};
 
-    /// These slots.
+    /// Wraps these slots.
     pub const fn new(numbers: Vec<u8, A>) -> Self
         ensures { result ≡ numbers.items }
     {
         Slots { numbers }
     }
 
-    /// The slots as a slice.
+    /// Returns the slots as a slice.
     pub fn as_slice(&self) -> &[u8]
         ensures { result.now ≡ self.now }
     {
         self.numbers.as_slice()
     }
 
-    /// The slots as they were given.
+    /// Returns the slots as they were given.
     pub fn into_vec(self) -> Vec<u8, A>
         ensures { result.items ≡ self }
     {
@@ -84,15 +84,15 @@ impl<A: Allocator> Slots<A> {
     }
 }
 
-/// What is known of the state in which the instruction of a number begins.
+/// What is known of the state in which the instruction with this number begins.
 #[derive(Drop)]
 pub struct Frame<A: Allocator = Global> {
-    /// The instruction's number.
+    /// The number of the instruction.
     pub pc: u16,
-    /// How many places the operand stack has.
+    /// The number of places of the operand stack.
     pub depth: u16,
-    /// The places whose kind isn't `Kind::Any`, from the lowest.
+    /// The places whose kind isn't `Kind::Any`, in ascending order.
     pub places: Places<A>,
-    /// The slots that are bound, from the lowest.
+    /// The slots that are bound, in ascending order.
     pub slots: Slots<A>,
 }

@@ -4,18 +4,18 @@ ghost use Rattle.std.specs.Prelude.{◌≡◌, IsTrue, ◌↔◌};
 use prims_table::{Arithmetic, Function};
 
 /// An instruction. The top is the last place of the operand stack; arguments and elements are pushed from the left. A
-/// jump goes to the instruction of that number and cuts the stack to the depth of the frame there. After an instruction
-/// that isn't `Jump`, `Answer`, `NoAnswer`, `Return` or `Fail`, execution goes on at the next.
+/// jump goes to the instruction with that number and cuts the stack to the depth of the frame there. Execution goes on
+/// at the next instruction, except after `Jump`, `Answer`, `NoAnswer`, `Return` and `Fail`.
 #[derive(Clone, Copy, Debug, PartialEq, Eq)]
 pub enum Instr {
     /// Pushes the object.
     Load,
-    /// Pushes the constant of this number.
+    /// Pushes the constant with this number.
     Const {
         /// The constant's number.
         constant: u16,
     },
-    /// Pushes what the slot is bound to.
+    /// Pushes the term to which the slot is bound.
     Get {
         /// The slot's number.
         slot: u8,
@@ -29,11 +29,11 @@ pub enum Instr {
     Dup,
     /// Pops the top.
     Drop,
-    /// Jumps where the top is no tuple of this size. The top stays.
+    /// Jumps if the top is not a tuple of this size. The top stays.
     Tuple {
-        /// How many elements.
+        /// The number of elements.
         size: u16,
-        /// Where to go otherwise.
+        /// The target of the jump.
         otherwise: u16,
     },
     /// Pops a tuple and pushes the element at this place, counted from 1.
@@ -41,101 +41,101 @@ pub enum Instr {
         /// The place.
         index: u16,
     },
-    /// Jumps where the top is no list with elements. The top stays.
+    /// Jumps if the top is not a list with elements. The top stays.
     Cons {
-        /// Where to go otherwise.
+        /// The target of the jump.
         otherwise: u16,
     },
     /// Pops a list with elements and pushes its head.
     Head,
     /// Pops a list with elements and pushes its tail.
     Tail,
-    /// Jumps where the top is no map. The top stays.
+    /// Jumps if the top is not a map. The top stays.
     Map {
-        /// Where to go otherwise.
+        /// The target of the jump.
         otherwise: u16,
     },
-    /// Pops a map and pushes the value of a key, or jumps where the map has no such key.
+    /// Pops a map and pushes the value of a key. Jumps if the map has no such key.
     Value {
         /// The number of the constant that is the key.
         key: u16,
-        /// Where to go otherwise.
+        /// The target of the jump.
         otherwise: u16,
     },
-    /// Pops two terms, and jumps where they are not the same.
+    /// Pops two terms and jumps if they are not equal.
     Equal {
-        /// Where to go otherwise.
+        /// The target of the jump.
         otherwise: u16,
     },
     /// Jumps.
     Jump {
-        /// Where to go.
+        /// The target of the jump.
         target: u16,
     },
-    /// Pops so many arguments and pushes what the function gives, or jumps where the call fails.
+    /// Pops the arguments and pushes the result of the function. Jumps if the call fails.
     Call {
         /// The function.
         function: Function,
-        /// How many arguments.
+        /// The number of arguments.
         arguments: u16,
-        /// Where to go otherwise.
+        /// The target of the jump.
         otherwise: u16,
     },
-    /// Jumps where the top is no integer. The top stays.
+    /// Jumps if the top is not an integer. The top stays.
     Int {
-        /// Where to go otherwise.
+        /// The target of the jump.
         otherwise: u16,
     },
-    /// Pops two integers and pushes what the function gives, or jumps where it fails.
+    /// Pops two integers and pushes the result of the function. Jumps if it fails.
     Arith {
         /// The function.
         function: Arithmetic,
-        /// Where to go otherwise.
+        /// The target of the jump.
         otherwise: u16,
     },
-    /// Jumps where the top is neither `true` nor `false`. The top stays.
+    /// Jumps if the top is neither `true` nor `false`. The top stays.
     Bool {
-        /// Where to go otherwise.
+        /// The target of the jump.
         otherwise: u16,
     },
-    /// Pops `true` or `false`, and jumps where it is `false`.
+    /// Pops `true` or `false`, and jumps if it is `false`.
     Branch {
-        /// Where to go otherwise.
+        /// The target of the jump.
         otherwise: u16,
     },
-    /// Pops so many elements and pushes the tuple of them, or jumps where it passes a limit of terms.
+    /// Pops the elements and pushes the tuple of them. Jumps if it exceeds a limit of terms.
     MakeTuple {
-        /// How many elements.
+        /// The number of elements.
         size: u16,
-        /// Where to go otherwise.
+        /// The target of the jump.
         otherwise: u16,
     },
-    /// Pops a tail and below it a head, and pushes the list, or jumps where it passes a limit of terms.
+    /// Pops a tail and the head below it, and pushes the list. Jumps if it exceeds a limit of terms.
     MakeCons {
-        /// Where to go otherwise.
+        /// The target of the jump.
         otherwise: u16,
     },
-    /// Pops a value for each key and pushes the map, or jumps where it passes a limit of terms.
+    /// Pops a value for each key and pushes the map. Jumps if it exceeds a limit of terms.
     MakeMap {
         /// The number of the constant that is the list of the keys.
         keys: u16,
-        /// Where to go otherwise.
+        /// The target of the jump.
         otherwise: u16,
     },
     /// Ends with the top as the answer.
     Answer,
     /// Ends without an answer.
     NoAnswer,
-    /// Pops the arguments of a routine and pushes what it gives, or jumps where it fails.
+    /// Pops the arguments of a routine and pushes its result. Jumps if it fails.
     Invoke {
-        /// The routine's number, from 1.
+        /// The routine's number, counted from 1.
         routine: u16,
-        /// Where to go otherwise.
+        /// The target of the jump.
         otherwise: u16,
     },
-    /// Ends the routine with the top.
+    /// Ends the routine with the top as its result.
     Return,
-    /// Ends the routine, failed.
+    /// Ends the routine with a failure.
     Fail,
 }
 
@@ -143,7 +143,7 @@ impl Instr {
     ghost use Rattle.std.specs.Prelude.{◌≡◌};
     ghost use Rattle.mcode.specs.Instr.{target_of, goes_on};
 
-    /// Where the instruction may jump.
+    /// Returns the target of the instruction's jump, or `None` if it doesn't jump.
     pub const fn target(self) -> Option<u16>
         ensures { result ≡ target_of self }
     {
@@ -179,7 +179,7 @@ impl Instr {
         }
     }
 
-    /// Whether execution may go on at the next instruction.
+    /// Returns whether execution may go on at the next instruction.
     pub const fn goes_on(self) -> bool
         ensures { result ≡ goes_on self }
     {

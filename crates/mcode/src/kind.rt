@@ -13,6 +13,6 @@ pub enum Kind {
     Cons,
     /// A map.
     Map,
-    /// A tuple of so many elements.
+    /// A tuple of this number of elements.
     Tuple(u16),
 }

@@ -1,14 +1,14 @@
 //! Code for the matching machine, and what the machine does with it.
 //!
-//! The one contract: a `Code` has the counts and the order of frames that `IsWhole` of `specs/Program.antt` says, and
-//! nothing else is known of it. `Builder` makes it part by part, and refuses what would break that. What each
-//! instruction does is `does` of `specs/Machine.antt`, a run is `Runs`.
+//! The contract: a `Code` satisfies the limits on counts and the order of frames of `IsWhole` (`specs/Program.antt`),
+//! and nothing else is known of it. `Builder` makes it part by part, and rejects parts that would break this. What each
+//! instruction does is `does` of `specs/Machine.antt`; a run is `Runs`.
 //!
-//! - `instr`: the instructions; `kind`: the kinds of terms that the verifier tells
-//!   apart (`specs/Kind.antt`); `frame`: what is known where jumps lead.
-//! - `code`: code; `parts`: what each of its bodies has; `routine`: a body that others invoke; `body`: code seen from
-//!   one of its bodies (`specs/Program.antt`), and runs over all of them (`specs/Run.antt`).
-//! - `builder`: how code is built; `fault`: why a part is refused.
+//! - `instr`: the instructions; `kind`: the kinds of terms that the verifier distinguishes (`specs/Kind.antt`);
+//!   `frame`: what is known at the targets of jumps.
+//! - `code`: code; `parts`: the parts of each of its bodies; `routine`: a body that others invoke; `body`: code viewed
+//!   from one of its bodies (`specs/Program.antt`), and runs over all of them (`specs/Run.antt`).
+//! - `builder`: building code; `fault`: why a part is rejected.
 #![tactic(auto)]
 
 mod body;
@@ -30,11 +30,11 @@ pub use instr::Instr;
 pub use kind::Kind;
 pub use routine::Routine;
 
-/// The most constants, instructions, frames and places of a frame that code has.
+/// The largest number of constants, instructions or frames of code, and of places of a frame.
 pub const MAX_COUNT: usize = 65_535;
-/// The most slots.
+/// The largest number of slots of a body.
 pub const MAX_SLOTS: u16 = 256;
-/// The most routines.
+/// The largest number of routines.
 pub const MAX_ROUTINES: usize = 255;
-/// The most arguments of a routine.
+/// The largest number of arguments of a routine.
 pub const MAX_ARGUMENTS: usize = 255;

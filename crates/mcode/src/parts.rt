@@ -1,4 +1,4 @@
-//! What a body of code has of its own.
+//! The parts of a body of code.
 ghost use Rattle.std.specs.Prelude.{◌≡◌, ◌≤◌, ◌++◌, ◌∷◌, [], length, map, OnOk, OnErr, IfErr};
 ghost use Rattle.std.specs.Option.{option_map, option_copied};
 ghost use Rattle.mcode.specs.Frame.{frame_of};
@@ -10,7 +10,7 @@ use crate::instr::Instr;
 use std::alloc::{AllocError, AllocFailed, Allocator, Global};
 use std::marker::Model;
 
-/// The frame of a number among these, whose numbers rise.
+/// Returns the frame at an instruction among these, which are in ascending order, or `None` if there is none.
 fn frame_with<A: Allocator>(frames: &[Frame<A>], pc: u16) -> Option<&Frame<A>>
     requires { Rise frame_number (map frame_of frames.now) }
     ensures { option_map frame_of (option_copied result) ≡ frame_at (map frame_of frames.now) pc }
@@ -21,7 +21,7 @@ fn frame_with<A: Allocator>(frames: &[Frame<A>], pc: u16) -> Option<&Frame<A>>
     }
 }
 
-/// Puts a frame that fits at the end of those that are there.
+/// Appends a frame that fits after those that are there. On failure, hands it back.
 fn add_frame<A: Allocator>(
     frames: &mut Vec<Frame<A>, A>,
     frame: Frame<A>,
@@ -66,7 +66,7 @@ impl<A: Allocator> Parts<A> {
     ghost use Rattle.mcode.specs.Program.{IsBody, most_slots, most_parts, frame_at};
     ghost use Rattle.mcode.specs.Building.{empty_body, one_instruction_more, one_frame_more, IsFrameTooMany, IsNextFrame};
 
-    /// No parts, over this many slots.
+    /// Makes a body without parts, with this number of slots.
     pub(crate) fn empty(alloc: A, slots: u16) -> Self
     where
         A: Copy,
@@ -80,7 +80,7 @@ impl<A: Allocator> Parts<A> {
         }
     }
 
-    /// Puts an instruction at the end.
+    /// Appends an instruction.
     pub(crate) fn push_instruction(&mut self, instr: Instr) -> Result<(), AllocError>
         requires { length self.old.instructions < most_parts }
         ensures ok { OnOk result (self.new ≡ one_instruction_more self.old instr) }
@@ -92,7 +92,7 @@ impl<A: Allocator> Parts<A> {
         }
     }
 
-    /// Puts a frame at the end, which stands above the others and is in order.
+    /// Appends a frame. It is above the others and in order. On failure, hands it back.
     pub(crate) fn push_frame(&mut self, frame: Frame<A>) -> Result<(), AllocFailed<Frame<A>>>
         requires fits { ¬ IsFrameTooMany self.old.frames (frame_of frame) }
         requires next { IsNextFrame self.old.frames (frame_of frame) }
@@ -104,7 +104,7 @@ impl<A: Allocator> Parts<A> {
         add_frame(&mut self.frames, frame)
     }
 
-    /// How many slots there are.
+    /// Returns the number of slots.
     pub(crate) fn slots(&self) -> u16
         ensures value { result ≡ self.now.slots }
         ensures within { IsBody self.now }
@@ -112,7 +112,7 @@ impl<A: Allocator> Parts<A> {
         self.slots
     }
 
-    /// The instructions.
+    /// Returns the instructions.
     pub(crate) fn instructions(&self) -> &[Instr]
         ensures value { result.now ≡ self.now.instructions }
         ensures within { IsBody self.now }
@@ -120,7 +120,7 @@ impl<A: Allocator> Parts<A> {
         self.instructions.as_slice()
     }
 
-    /// The frames, by rising number of the instruction.
+    /// Returns the frames, in ascending order of their instructions.
     pub(crate) fn frames(&self) -> &[Frame<A>]
         ensures value { map frame_of result.now ≡ self.now.frames }
         ensures within { IsBody self.now }
@@ -128,7 +128,7 @@ impl<A: Allocator> Parts<A> {
         self.frames.as_slice()
     }
 
-    /// The frame at an instruction, where there is one.
+    /// Returns the frame at an instruction, or `None` if there is none.
     pub(crate) fn frame_at(&self, pc: u16) -> Option<&Frame<A>>
         ensures { option_map frame_of (option_copied result) ≡ frame_at self.now.frames pc }
     {

@@ -32,7 +32,7 @@ impl<A: Allocator> Routine<A> {
     ghost use Rattle.mcode.specs.Frame.{frame_of};
     ghost use Rattle.mcode.specs.Program.{IsRoutine, most_arguments, routine_of, frame_at};
 
-    /// The routine of this body.
+    /// Makes the routine with this body.
     pub(crate) fn new(arguments: Vec<Kind, A>, gives: Kind, parts: Parts<A>) -> Self
         requires { length arguments.items ≤ most_arguments }
         ensures value { result ≡ routine_of arguments.items gives parts }
@@ -45,7 +45,7 @@ impl<A: Allocator> Routine<A> {
         }
     }
 
-    /// Exchanges the body.
+    /// Replaces the body and returns the old one.
     pub(crate) fn exchange(&mut self, parts: Parts<A>) -> Parts<A>
         ensures value { self.new ≡ routine_of self.old.arguments self.old.result parts }
         ensures within { IsRoutine self.new }
@@ -53,7 +53,7 @@ impl<A: Allocator> Routine<A> {
         mem::replace(&mut self.parts, parts)
     }
 
-    /// The kinds of the arguments, the lowest first, at most `MAX_ARGUMENTS`.
+    /// Returns the kinds of the arguments, the lowest first, at most `MAX_ARGUMENTS`.
     pub fn arguments(&self) -> &[Kind]
         ensures value { result.now ≡ self.now.arguments }
         ensures within { IsRoutine self.now }
@@ -61,35 +61,35 @@ impl<A: Allocator> Routine<A> {
         self.arguments.as_slice()
     }
 
-    /// The kind of what the routine gives.
+    /// Returns the kind of the routine's result.
     pub fn gives(&self) -> Kind
         ensures { result ≡ self.now.result }
     {
         self.gives
     }
 
-    /// How many slots there are, at most `MAX_SLOTS`.
+    /// Returns the number of slots, at most `MAX_SLOTS`.
     pub fn slots(&self) -> u16
         ensures { result ≡ self.now.body.slots }
     {
         self.parts.slots()
     }
 
-    /// The instructions, at most `MAX_COUNT`.
+    /// Returns the instructions, at most `MAX_COUNT`.
     pub fn instructions(&self) -> &[Instr]
         ensures { result.now ≡ self.now.body.instructions }
     {
         self.parts.instructions()
     }
 
-    /// The frames, by rising number of the instruction, at most `MAX_COUNT`.
+    /// Returns the frames, in ascending order of their instructions, at most `MAX_COUNT`.
     pub fn frames(&self) -> &[Frame<A>]
         ensures { map frame_of result.now ≡ self.now.body.frames }
     {
         self.parts.frames()
     }
 
-    /// The frame at an instruction, where there is one.
+    /// Returns the frame at an instruction, or `None` if there is none.
     pub fn frame_at(&self, pc: u16) -> Option<&Frame<A>>
         ensures { option_map frame_of (option_copied result) ≡ frame_at self.now.body.frames pc }
     {

@@ -1,4 +1,4 @@
--- What fits a pattern, and claims on substitutions taken together.
+-- What fits a pattern, and combined claims on substitutions.
 use Rattle.std.proofs.Common.{◌≡◌, ℕ, suc, ◌+◌, ◌<◌, ◌≤◌, Bool, true, false, MatchBool, Option, Some, None, List, [], ◌∷◌, length, get_or, drop, refl, sym, ◌∙◌, ap, subst, arith, drop-cons, add-one}
 use Rattle.std.proofs.lemmas.List.{drop_all}
 use Rattle.std.specs.Ordering.{eq_by_cmp, is_eq}
@@ -16,13 +16,13 @@ use Rattle.mspec_match.specs.Match.{Fits, AllFit, FieldsFit}
 use Rattle.term_operand.specs.Operand.{IsNoCell}
 use Rattle.mspec_match.specs.Slots.{assigned, Extends, IsOver, Binds, NeverHolds, Answers, LeadsOn, BindsFront, NeverFitsFront}
 
--- a test of equality
+-- what a test of equality says
 pub eq-says : (r : Bool) (a b : Datum) → r ≡ eq_by_cmp datum_cmp a b → MatchBool r (a ≡ b) (a ≡ b → ⊥)
 eq-says true a b e = datum_eq-same a b (sym e)
 eq-says false a b e = λ same. absurd (let equal = ap is_eq (datum_cmp-same same) in let r = e ∙ equal in cc)
 
 mutual
-  -- more values do no harm
+  -- what fits under some values fits under more
   pub Fits-more : (p : Pattern) (s r : ℕ → Option Datum) (t : Datum) → Extends s r → Fits p s t → Fits p r t
   Fits-more (variable n) s r t e h = e n t h
   Fits-more anything s r t e h = tt
@@ -45,12 +45,12 @@ mutual
   FieldsFit-more (field k p fs) s r es e h =
       ((h.0.0, h.0.1, Fits-more p s r h.0.0 e h.0.2), FieldsFit-more fs s r es e h.1)
 
--- a claim that means the same
+-- an answer for a claim is an answer for an equivalent claim
 pub Answers-same : (r : Bool) (vs : List ℕ) (a b : List (Option Datum)) (F G : (ℕ → Option Datum) → Type 0) → ((s : ℕ → Option Datum) → F s → G s) → ((s : ℕ → Option Datum) → G s → F s) → Answers r vs a b F → Answers r vs a b G
 Answers-same true vs a b F G to from h = record { grown = h.grown; holds = to _ h.holds; least = λ s over extends claim. h.least s over extends (from s claim) }
 Answers-same false vs a b F G to from h = λ s over extends claim. h s over extends (from s claim)
 
--- one claim after another
+-- binding for one claim and then for another binds for both
 pub Binds-then : (vs : List ℕ) (a b c : List (Option Datum)) (F G : (ℕ → Option Datum) → Type 0) → ((s r : ℕ → Option Datum) → Extends s r → F s → F r) → Binds vs a b F → Binds vs b c G → Binds vs a c (λ s. F s × G s)
 Binds-then vs a b c F G more h k = record {
   grown = λ n d e. k.grown n d (h.grown n d e);
@@ -68,16 +68,16 @@ pub Answers-then : (r : Bool) (vs : List ℕ) (a b c : List (Option Datum)) (F G
 Answers-then true vs a b c F G more h k = Binds-then vs a b c F G more h k
 Answers-then false vs a b c F G more h k = Never-then vs a b F G h k
 
--- nothing is asked for
+-- a claim that always holds binds nothing
 pub Binds-nothing : (vs : List ℕ) (a : List (Option Datum)) (F : (ℕ → Option Datum) → Type 0) → ((s : ℕ → Option Datum) → F s) → Binds vs a a F
 Binds-nothing vs a F all = record { grown = λ n d e. e; holds = all _; least = λ s over extends claim. extends }
 
--- a claim on no values
+-- an answer for a claim that does not depend on values
 pub Answers-fact : (r : Bool) (vs : List ℕ) (a : List (Option Datum)) (P : Type 0) → MatchBool r P (P → ⊥) → Answers r vs a a (λ s. P)
 Answers-fact true vs a P h = record { grown = λ n d e. e; holds = h; least = λ s over extends claim. extends }
 Answers-fact false vs a P h = λ s over extends claim. h claim
 
--- the claim of what is left leads to the whole claim
+-- the claim for the remaining elements leads to the claim for all
 pub record AllFront (vs : List ℕ) (first now : List (Option Datum)) (ps : List Pattern) (ds : List Datum) (i : ℕ) : Type 0 where
   pub done : (last : List (Option Datum)) → Binds vs now last (λ s. AllFit (patterns_of (drop i ps)) s (items_of (drop i ds))) → Binds vs first last (λ s. AllFit (patterns_of ps) s (items_of ds))
   pub failed : NeverHolds vs now (λ s. AllFit (patterns_of (drop i ps)) s (items_of (drop i ds))) → NeverHolds vs first (λ s. AllFit (patterns_of ps) s (items_of ds))
@@ -124,14 +124,14 @@ AllFront-all vs first now ps ds i end same front =
     let Q : List Datum → Type 0 = λ xs. Binds vs now now (λ s. AllFit (patterns_of []) s (items_of xs)) in
     front.done now (subst P (sym left) (subst Q (sym right) (Binds-nothing vs now (λ s. Unit {0}) (λ s. tt))))
 
--- another number of elements fits under no values
+-- patterns and elements of different numbers never fit
 pub lengths-never : (ps : List Pattern) (ds : List Datum) (s : ℕ → Option Datum) → (length ps ≡ length ds → ⊥) → AllFit (patterns_of ps) s (items_of ds) → ⊥
 lengths-never [] [] s differ h = differ refl
 lengths-never [] (d ∷ ds) s differ h = h
 lengths-never (p ∷ ps) [] s differ h = h
 lengths-never (p ∷ ps) (d ∷ ds) s differ h = lengths-never ps ds s (λ e. differ (omega arith)) h.1
 
--- the claim of the keys that are left leads to the whole claim
+-- the claim for the remaining keys leads to the claim for all
 pub record FieldsFront (vs : List ℕ) (first now : List (Option Datum)) (fs : List (Datum × Pattern)) (es : List (Datum × Datum)) (i : ℕ) : Type 0 where
   pub done : (last : List (Option Datum)) → Binds vs now last (λ s. FieldsFit (fields_of (drop i fs)) s (entries_of es)) → Binds vs first last (λ s. FieldsFit (fields_of fs) s (entries_of es))
   pub failed : NeverHolds vs now (λ s. FieldsFit (fields_of (drop i fs)) s (entries_of es)) → NeverHolds vs first (λ s. FieldsFit (fields_of fs) s (entries_of es))
@@ -145,7 +145,7 @@ FieldFits f es s = (v : Datum) × (value_at f.0 (entries_of es) ≡ Some v) × F
 FieldFits-more : (f : Datum × Pattern) (es : List (Datum × Datum)) (s r : ℕ → Option Datum) → Extends s r → FieldFits f es s → FieldFits f es r
 FieldFits-more f es s r e h = (h.0, h.1, Fits-more f.1 s r h.0 e h.2)
 
--- the value that is found is the only one
+-- the value that was found is the only one
 FieldFits-to : (f : Datum × Pattern) (es : List (Datum × Datum)) (v : Datum) (s : ℕ → Option Datum) → Some v ≡ value_at f.0 (entries_of es) → Fits f.1 s v → FieldFits f es s
 FieldFits-to f es v s e h = (v, sym e, h)
 
@@ -183,7 +183,7 @@ FieldsFront-never vs first now fs es i f v h e found never front =
     let P : List (Datum × Pattern) → Type 0 = λ xs. NeverHolds vs now (λ s. FieldsFit (fields_of xs) s (entries_of es)) in
     front.failed (subst P (sym left) both)
 
--- a key without a value fits under no values
+-- a key without a value never fits
 pub FieldsFront-missing : (vs : List ℕ) (first now : List (Option Datum)) (fs : List (Datum × Pattern)) (es : List (Datum × Datum)) (i : ℕ) (f : Datum × Pattern) → i < length fs → f ≡ get_or fs i f → None ≡ value_at f.0 (entries_of es) → FieldsFront vs first now fs es i → NeverHolds vs first (λ s. FieldsFit (fields_of fs) s (entries_of es))
 FieldsFront-missing vs first now fs es i f h e found front =
     let left : drop i fs ≡ f ∷ drop (i + 1) fs = split_at fs i f h e in
@@ -197,7 +197,7 @@ FieldsFront-all vs first now fs es i end front =
     let P : List (Datum × Pattern) → Type 0 = λ xs. Binds vs now now (λ s. FieldsFit (fields_of xs) s (entries_of es)) in
     front.done now (subst P (sym left) (Binds-nothing vs now (λ s. Unit {0}) (λ s. tt)))
 
--- what is left of a list's first elements leads on by one more
+-- one more of a list's first elements leads on from those before it
 pub cells-more : (vs : List ℕ) (first now next : List (Option Datum)) (ps : List Pattern) (whole : Datum) (i : ℕ) (p : Pattern) (head tail rest : Datum) → i < length ps → p ≡ get_or ps i p → cons head tail ≡ rest → Binds vs now next (λ s. Fits p s head) → LeadsOn vs first now ps whole (drop i ps) rest → LeadsOn vs first next ps whole (drop (i + 1) ps) tail
 cells-more vs first now next ps whole i p head tail rest h e is bound leads = λ q answer last claim.
     let left : drop i ps ≡ p ∷ drop (i + 1) ps = split_at ps i p h e in
@@ -206,7 +206,7 @@ cells-more vs first now next ps whole i p head tail rest h e is bound leads = λ
     let Q : List Pattern → Type 0 = λ xs. Answers answer vs now last (λ s. Fits (cells_of xs q) s rest) in
     leads q answer last (subst Q (sym left) (subst P is both))
 
--- an element that fits under no values
+-- a list with a first element that never fits never fits
 pub cells-never : (vs : List ℕ) (first now : List (Option Datum)) (ps : List Pattern) (whole : Datum) (i : ℕ) (p : Pattern) (head tail rest : Datum) → i < length ps → p ≡ get_or ps i p → cons head tail ≡ rest → NeverHolds vs now (λ s. Fits p s head) → LeadsOn vs first now ps whole (drop i ps) rest → NeverFitsFront vs first ps whole
 cells-never vs first now ps whole i p head tail rest h e is never leads = λ q.
     let left : drop i ps ≡ p ∷ drop (i + 1) ps = split_at ps i p h e in
@@ -224,7 +224,7 @@ no_cell-never p q s (table es) none fits = fits
 no_cell-never p q s nil none fits = fits
 no_cell-never p q s (binary bs) none fits = fits
 
--- an element that isn't there
+-- a list that lacks one of the first elements never fits
 pub cells-short : (vs : List ℕ) (first now : List (Option Datum)) (ps : List Pattern) (whole : Datum) (i : ℕ) (p : Pattern) (rest : Datum) → i < length ps → p ≡ get_or ps i p → IsNoCell rest → LeadsOn vs first now ps whole (drop i ps) rest → NeverFitsFront vs first ps whole
 cells-short vs first now ps whole i p rest h e none leads = λ q.
     let left : drop i ps ≡ p ∷ drop (i + 1) ps = split_at ps i p h e in
@@ -236,7 +236,7 @@ cells-all vs first now ps whole i rest end leads =
     let P : List Pattern → Type 0 = λ xs. LeadsOn vs first now ps whole xs rest in
     subst P (drop_all i ps end) leads
 
--- a list fits where its first elements and what is left do
+-- a list fits if its first elements and its rest do
 pub list-Answers : (answer : Bool) (vs : List ℕ) (a b c : List (Option Datum)) (xs ps : List Pattern) (q p : Pattern) (t rest : Datum) → xs ≡ ps → cells_of ps q ≡ p → BindsFront vs a b xs t rest → Answers answer vs b c (λ s. Fits q s rest) → Answers answer vs a c (λ s. Fits p s t)
 list-Answers answer vs a b c xs ps q p t rest same is bound h =
     let P : Pattern → Type 0 = λ x. Answers answer vs a c (λ s. Fits x s t) in

@@ -1,4 +1,4 @@
--- What the slots of a head say of substitutions.
+-- What the slots of a head say about substitutions.
 use Rattle.std.proofs.Common.{◌≡◌, ℕ, zero, suc, ◌==◌, cond, Bool, true, false, ◌||◌, inl, inr, Option, Some, None, List, [], ◌∷◌, ◌++◌, map, length, take, refl, sym, ◌∙◌, ap, subst, arith}
 use Rattle.std.proofs.lemmas.Bool.{cases_eq, eq-eqb, ne_eqb, or_cases}
 use Rattle.term_core.specs.Datum.{Datum, Items, Entries}
@@ -32,7 +32,7 @@ assigned-free (v ∷ vs) (x ∷ slots) n h =
       | inr z ↦ rw (ne_eqb v n z) (assigned-free vs slots n h.1)
     ]
 
--- what never holds from free slots matches under no substitution
+-- a pattern that never fits from free slots matches under no substitution
 pub never-matches : (vs : List ℕ) (slots : List (Option Datum)) (p : Pattern) (t : Datum) → vs ≡ rising (pattern_variables p) → AreFree slots → NeverHolds vs slots (λ s. Fits p s t) → NeverMatches p t
 never-matches vs slots p t names free never = λ s m.
     never (lookup s)
@@ -56,7 +56,7 @@ among-append [] ys n = refl
 among-append (x ∷ xs) ys n = ap (λ b. (x == n) || b) (among-append xs ys n) ∙ or_assoc (x == n) (is_among xs n) (is_among ys n)
 
 mutual
-  -- a variable of the pattern has a value
+  -- a variable of a pattern that fits has a value
   Fits-bound : (p : Pattern) (s : ℕ → Option Datum) (t : Datum) (n : ℕ) → Fits p s t → is_among (pattern_variables p) n ≡ true → (d : Datum) × (s n ≡ Some d)
   Fits-bound (variable m) s t n h e = one_bound m s t n h e
   Fits-bound anything s t n h e = absurd (cc)
@@ -103,7 +103,7 @@ substitution-extends (v ∷ vs) (Some x ∷ slots) = λ n d h.
       | inr z ↦ rw (ne_eqb v n z) (substitution-extends vs slots n d (sym (ap (λ b. cond b (Some x) (assigned vs slots n)) (ne_eqb v n z)) ∙ h))
     ]
 
--- where each variable has a value, these are the variables
+-- where each variable has a value, the variables of the substitution are these
 substitution-domain : (vs : List ℕ) (slots : List (Option Datum)) → Rises vs → length slots ≡ length vs → ((n : ℕ) → is_among vs n ≡ true → (d : Datum) × (assigned vs slots n ≡ Some d)) → domain (substitution_of vs slots) ≡ vs
 substitution-domain [] slots h same all = refl
 substitution-domain (v ∷ vs) [] h same all = absurd (omega arith)
@@ -117,7 +117,7 @@ substitution-domain (v ∷ vs) (Some x ∷ slots) h same all =
     let found = all n (ap (λ b. b || is_among vs n) (ne_eqb v n differ) ∙ e) in
     (found.0, sym (ap (λ b. cond b (Some x) (assigned vs slots n)) (ne_eqb v n differ)) ∙ found.1)))
 
--- what the slots hold makes the pattern match
+-- the values in the slots make the pattern match
 pub slots-match : (vs : List ℕ) (old new : List (Option Datum)) (p : Pattern) (t : Datum) → vs ≡ rising (pattern_variables p) → length new ≡ length vs → Binds vs old new (λ s. Fits p s t) → Matches p (substitution_of vs new) t
 slots-match vs old new p t names same bound = record {
   domain =
@@ -127,14 +127,14 @@ slots-match vs old new p t names same bound = record {
   fits = Fits-more p (assigned vs new) (lookup (substitution_of vs new)) t (substitution-extends vs new) bound.holds;
 }
 
--- the slice that is handed back is the whole
+-- the slice that is returned is the whole
 pub whole : {X : Type 0} (n : ℕ) (xs ys : List X) → n ≡ length xs → take n (xs ++ ys) ≡ xs
 whole zero [] ys e = refl
 whole (suc n) [] ys e = absurd (omega arith)
 whole zero (x ∷ xs) ys e = absurd (omega arith)
 whole (suc n) (x ∷ xs) ys e = ap (λ l. x ∷ l) (whole n xs ys (omega arith))
 
--- the same in the words of the program
+-- the values in the slots make a clause's head match
 pub clause-match : (vs : List ℕ) (old new : List (Option Datum)) (q p : Pattern) (t : Datum) → vs ≡ rising (pattern_variables p) → q ≡ p → length new ≡ length vs → Binds vs old new (λ s. Fits q s t) → Matches p (substitution_of (rising (pattern_variables p)) new) t
 clause-match vs old new q p t names same count bound =
     let P : Pattern → Type 0 = λ x. Binds vs old new (λ s. Fits x s t) in
@@ -146,7 +146,7 @@ clause-never vs old q p t names same free never =
     let P : Pattern → Type 0 = λ x. NeverHolds vs old (λ s. Fits x s t) in
     never-matches vs old p t names free (subst P same never)
 
--- the value of a variable, and of one without a value
+-- looking up a variable gives the value in its slot
 pub lookup-known : (vs : List ℕ) (slots : List (Option Datum)) (n : ℕ) (d : Datum) → assigned vs slots n ≡ Some d → lookup (substitution_of vs slots) n ≡ Some d
 lookup-known vs slots n d h = substitution-extends vs slots n d h
 
@@ -178,7 +178,7 @@ lookup-free (v ∷ vs) (Some x ∷ slots) n h e =
       | inr z ↦ rw (ne_eqb v n z) (lookup-free vs slots n (Rises-tail v vs h) (sym (ap (λ b. cond b (Some x) (assigned vs slots n)) (ne_eqb v n z)) ∙ e))
     ]
 
--- the values in the order of their variables
+-- the values of the bound slots are those of the substitution, in the order of the variables
 pub known-values : (vs : List ℕ) (slots : List (Option Datum)) → length slots ≡ length vs → known slots ≡ values_of (substitution_of vs slots)
 known-values [] [] e = refl
 known-values [] (x ∷ slots) e = absurd (omega arith)
@@ -198,7 +198,7 @@ one_agrees m s r t n h k e =
     ]
 
 mutual
-  -- two substitutions under which a term fits agree on the pattern's variables
+  -- two assignments under which a term fits agree on the pattern's variables
   Fits-agree : (p : Pattern) (s r : ℕ → Option Datum) (t : Datum) (n : ℕ) → Fits p s t → Fits p r t → is_among (pattern_variables p) n ≡ true → s n ≡ r n
   Fits-agree (variable m) s r t n h k e = one_agrees m s r t n h k e
   Fits-agree anything s r t n h k e = absurd (cc)
@@ -261,7 +261,7 @@ same-lookups (x ∷ s) (f ∷ r) e h all =
     ∙ ap (λ b. cond b (Some f.1) (lookup r n)) (ne_eqb f.0 n other)) in
     ap (λ y. y ∷ s) first ∙ ap (λ l. f ∷ l) rest
 
--- at most one substitution matches
+-- at most one substitution makes a pattern match a term
 pub one-match : (p : Pattern) (t : Datum) (s r : Substitution) → Matches p s t → Matches p r t → s ≡ r
 one-match p t s r h k =
     same-lookups s r (h.domain ∙ sym k.domain) (subst Rises (sym h.domain) (Rises-rising (pattern_variables p)))

@@ -101,7 +101,7 @@ no_domain : (s : Substitution) → domain s ≡ [] → s ≡ []
 no_domain [] e = refl
 no_domain (x ∷ s) e = absurd (cc)
 
--- a pattern that spells a term matches it alone
+-- a pattern that spells a term matches that term alone
 pub own-matches : (p : Pattern) (d : Datum) (s : Substitution) (t : Datum) → own_term p ≡ Some d → Matches p s t ↔ ((s ≡ []) × (t ≡ d))
 own-matches p d s t is =
     let none = ap rising (own-variables p d is) in (

@@ -7,7 +7,7 @@ use Rattle.mspec_syntax.proofs.RisingLemmas.{Rises, Rises-tail, Rises-below, Ris
 use Rattle.mspec_match.specs.Slots.{assigned, Binds, Answers, AreFree}
 
 module _ {X : Type 0} (f : X → Option Datum) where
-  -- the value of the variable at a place
+  -- the value of the variable at a place is that of the slot there
   pub assigned-get : (vs : List ℕ) (slots : List X) (i n : ℕ) (x : X) → Rises vs → slice_get vs i ≡ Some n → length slots ≡ length vs → assigned vs (map f slots) n ≡ f (get_or slots i x)
   assigned-get [] slots i n x h e same = absurd (cc)
   assigned-get (v ∷ vs) [] i n x h e same = absurd (omega arith)
@@ -38,7 +38,7 @@ module _ {X : Type 0} (f : X → Option Datum) where
         | inr z ↦ rw (ne_eqb v m z) (assigned-other vs slots i n m x e differ)
       ]
 
-  -- a free variable is bound
+  -- binding a free variable
   pub free-Binds : (vs : List ℕ) (slots : List X) (i n : ℕ) (x y : X) (d : Datum) → vs ≡ rising vs → slice_get vs i ≡ Some n → length slots ≡ length vs → f (get_or slots i y) ≡ None → f x ≡ Some d → Binds vs (map f slots) (map f (slice_set slots i x)) (λ s. s n ≡ Some d)
   free-Binds vs slots i n x y d kept e same free is =
       let order = Rises-itself vs kept in
@@ -60,7 +60,7 @@ module _ {X : Type 0} (f : X → Option Datum) where
             ];
       }
 
-  -- a variable that is bound is compared
+  -- comparing with a variable that is bound
   pub bound-Answers : (r : Bool) (vs : List ℕ) (slots : List X) (i n : ℕ) (y : X) (c d : Datum) → vs ≡ rising vs → slice_get vs i ≡ Some n → length slots ≡ length vs → f (get_or slots i y) ≡ Some c → MatchBool r (c ≡ d) (c ≡ d → ⊥) → Answers r vs (map f slots) (map f slots) (λ s. s n ≡ Some d)
   bound-Answers true vs slots i n y c d kept e same is equal =
       let before = assigned-get vs slots i n y (Rises-itself vs kept) e same ∙ is in

@@ -8,7 +8,7 @@ use Rattle.mspec_match.specs.Match.{Substitution, Matches}
 abbrev pub HasOneMatch : Type 0
 HasOneMatch = (p : Pattern) (t : Datum) (s r : Substitution) → Matches p s t → Matches p r t → s ≡ r
 
--- such a pattern matches its own term alone, and binds nothing
+-- a pattern that spells a term matches that term alone, and binds nothing
 abbrev pub OwnTermMatches : Type 0
 OwnTermMatches =
     (p : Pattern) (d : Datum) (s : Substitution) (t : Datum) → own_term p ≡ Some d

@@ -11,7 +11,7 @@ use Rattle.mspec_syntax.specs.Pattern.Patterns.{no_patterns, pattern}
 use Rattle.mspec_syntax.specs.Pattern.Fields.{no_fields, field}
 use Rattle.mspec_syntax.specs.Rising.{rising}
 
--- a finite map from variables to terms, as its pairs by rising variable
+-- a finite map from variables to terms, as its pairs in ascending order of the variables
 abbrev pub Substitution : Type 0
 Substitution = List (ℕ × Datum)
 
@@ -23,7 +23,7 @@ domain s = map (λ e. e.0) s
 abbrev pub values_of : Substitution → List Datum
 values_of s = map (λ e. e.1) s
 
--- the value of a variable
+-- the value of a variable, None if it has none
 abbrev pub lookup : Substitution → ℕ → Option Datum
 lookup [] n = None
 lookup (e ∷ s) n = if e.0 == n then Some e.1 else lookup s n

@@ -1,4 +1,4 @@
-//! Patterns matched with parts of an object.
+//! Matching patterns with parts of an object.
 ghost use Rattle.std.specs.Prelude.{◌≡◌, length, MatchBool, MatchOption};
 ghost use Rattle.term_core.specs.Datum.{items_of, entries_of};
 ghost use Rattle.term_core.specs.Datum.Datum.{nil};
@@ -14,10 +14,11 @@ use std::alloc::Allocator;
 use term_core::{Term, View};
 use term_operand::{Operand, compare};
 
-/// The slots of a head's variables, in rising order of their numbers.
+/// The slot of a variable: the part of an object to which it is bound, or `None` while it is free. Slots are in
+/// ascending order of the variables' numbers.
 pub type Slot<'a, A> = Option<Operand<'a, A>>;
 
-/// Whether two operands are the same term.
+/// Returns whether two operands are equal.
 fn are_same<A: Allocator>(left: Operand<'_, A>, right: Operand<'_, A>) -> bool
     ensures { MatchBool result (operand_datum left.entry ≡ operand_datum right.entry)
         (operand_datum left.entry ≡ operand_datum right.entry → ⊥) }
@@ -25,7 +26,7 @@ fn are_same<A: Allocator>(left: Operand<'_, A>, right: Operand<'_, A>) -> bool
     compare(left, right).is_eq()
 }
 
-/// Whether an operand is `[]`.
+/// Returns whether an operand is `[]`.
 fn is_nil<A: Allocator>(operand: Operand<'_, A>) -> bool
     ensures { MatchBool result (operand_datum operand.entry ≡ nil)
         (operand_datum operand.entry ≡ nil → ⊥) }
@@ -33,7 +34,7 @@ fn is_nil<A: Allocator>(operand: Operand<'_, A>) -> bool
     matches!(operand.view(), View::Nil)
 }
 
-/// Binds a variable that is free, and compares what one is bound to.
+/// Binds a free variable to a part. If the variable is bound already, returns whether it is bound to an equal term.
 fn bind_variable<'a, A: Allocator + Copy>(
     variables: &Variables<A>,
     slots: &mut [Slot<'a, A>],
@@ -56,7 +57,8 @@ fn bind_variable<'a, A: Allocator + Copy>(
     }
 }
 
-/// Binds the variables of a pattern so that a part of an object fits it, from the left.
+/// Binds the variables of a pattern, from the left, so that a part of an object fits it. Returns whether it fits; if
+/// not, some variables may have been bound.
 #[cycle(bind)]
 pub(crate) fn bind<'a, A: Allocator + Copy>(
     variables: &Variables<A>,
@@ -92,7 +94,7 @@ pub(crate) fn bind<'a, A: Allocator + Copy>(
     }
 }
 
-/// Binds the variables of these patterns so that these terms fit them, each its pattern.
+/// Binds the variables of these patterns so that each term fits its pattern. Returns whether they fit.
 #[cycle(bind)]
 fn bind_all<'a, A: Allocator + Copy>(
     variables: &Variables<A>,
@@ -115,8 +117,8 @@ fn bind_all<'a, A: Allocator + Copy>(
     true
 }
 
-/// Binds the variables of the patterns of a list's first elements, from the left, and gives what follows them. None
-/// where one doesn't fit, or there are fewer elements.
+/// Binds the variables of the patterns of a list's first elements, from the left. Returns what follows these elements,
+/// or `None` if one doesn't fit or there are fewer elements.
 #[cycle(bind)]
 fn bind_front<'a, A: Allocator + Copy>(
     variables: &Variables<A>,
@@ -143,7 +145,7 @@ fn bind_front<'a, A: Allocator + Copy>(
     Some(rest)
 }
 
-/// Binds the variables of the patterns of keys so that the values of these keys fit them.
+/// Binds the variables of the patterns of these fields so that the values of their keys fit. Returns whether they do.
 #[cycle(bind)]
 fn bind_fields<'a, A: Allocator + Copy>(
     variables: &Variables<A>,

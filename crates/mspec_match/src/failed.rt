@@ -1,4 +1,4 @@
-//! What stands for an expression that fails.
+//! The value of an expression that fails.
 ghost use Rattle.std.specs.Prelude.{◌≡◌, IfOk};
 ghost use Rattle.std.specs.Option.{option_map};
 ghost use Rattle.term_operand.specs.Value.{value_datum};
@@ -8,7 +8,8 @@ use mspec_syntax::{Mode, exit_term};
 use std::alloc::{AllocError, Allocator};
 use term_operand::Value;
 
-/// The value of what fails: none in a condition, `'EXIT'` in a body.
+/// Returns the value of an expression that fails: `None` in a condition, `'EXIT'` in a body. Fails if an allocation
+/// fails.
 pub fn failure<'a, A: Allocator + Copy>(
     alloc: A,
     mode: Mode,

@@ -8,7 +8,7 @@ use std::alloc::{AllocError, Allocator};
 use term_core::Term;
 use term_operand::Operand;
 
-/// Slots of variables that are free.
+/// Returns `count` free slots.
 fn free_slots<'a, A: Allocator + Copy>(
     alloc: A,
     count: usize,
@@ -22,7 +22,8 @@ fn free_slots<'a, A: Allocator + Copy>(
     Ok(slots)
 }
 
-/// What the variables of a clause's head are bound to, where it matches the object.
+/// Returns the slots of a clause's variables if its head matches the object, otherwise `None`. Fails if an allocation
+/// fails.
 pub fn matched<'a, A: Allocator + Copy>(
     alloc: A,
     clause: &Clause<A>,

@@ -1,4 +1,4 @@
-//! Laws of matching, each the contract of a function that does nothing.
+//! Laws of matching. Each is the contract of a function that does nothing.
 ghost use Rattle.mspec_match.specs.Laws.{HasOneMatch, OwnTermMatches};
 
 /// At most one substitution makes a pattern match a term.
@@ -6,8 +6,7 @@ pub fn one_substitution_matches()
     ensures { HasOneMatch }
 {}
 
-/// A pattern in which neither a variable, `'_'` nor a map stands matches the term that it spells,
-/// and no other.
+/// A pattern that contains no variable, `'_'` or map matches the term that it spells, and no other.
 pub fn own_term_matches()
     ensures { OwnTermMatches }
 {}

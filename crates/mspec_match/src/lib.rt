@@ -1,11 +1,11 @@
-//! Patterns of match specifications matched with terms (ERTS User's Guide, "Match Specifications in Erlang",
+//! Matching patterns of match specifications with terms (ERTS User's Guide, "Match Specifications in Erlang",
 //! "Semantics").
 //!
-//! The contract: `matched` says what the variables of a clause's head are bound to where it matches an object, and
-//! that nothing makes it match where it doesn't (`Matches` of `specs/Match.antt`). Beside it, the value of what fails
-//! where an expression stands: `failure`, `specs/Failure.antt`.
+//! The contract: `matched` returns what the variables of a clause's head are bound to if it matches an object. If it
+//! returns `None`, no values make it match (`Matches` of `specs/Match.antt`). The crate also has `failure`, the value
+//! of an expression that fails (`specs/Failure.antt`).
 //!
-//! - `bind`: a pattern and a part of an object, by the slots of `specs/Slots.antt`; `head`: the head of a clause and
+//! - `bind`: a pattern and a part of an object, with the slots of `specs/Slots.antt`; `head`: the head of a clause and
 //!   the object.
 //! - Laws of matching: `laws`, `specs/Laws.antt`.
 #![tactic(auto)]

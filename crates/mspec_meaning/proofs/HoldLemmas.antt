@@ -11,7 +11,7 @@ use Rattle.mspec_meaning.proofs.KnownLemmas.{split_at}
 use Rattle.mspec_meaning.specs.Meaning.{value_of, true_term, AllHold, Means, IsApplicable, Applies, body_value}
 use Rattle.mspec_syntax.specs.declared.mode.Mode.TheVariants.{Condition, Body}
 
--- the conditions that are left decide for all
+-- the remaining conditions decide for all
 pub record HoldFront (es : List Expression) (i : ℕ) (s : Substitution) (o : Datum) : Type 0 where
   pub to : AllHold (drop i es) s o → AllHold es s o
   pub from : AllHold es s o → AllHold (drop i es) s o
@@ -33,14 +33,14 @@ HoldFront-all es i s o end front =
     let P : List Expression → Type 0 = λ l. AllHold l s o in
     front.to (subst P (sym (drop_all i es end)) tt)
 
--- one that doesn't hold is enough
+-- one condition that does not hold is enough
 pub HoldFront-never : (es : List Expression) (i : ℕ) (e : Expression) (s : Substitution) (o : Datum) → i < length es → e ≡ get_or es i e → (value_of Condition e s o ≡ Some true_term → ⊥) → HoldFront es i s o → AllHold es s o → ⊥
 HoldFront-never es i e s o h is fails front k =
     let split : drop i es ≡ e ∷ drop (i + 1) es = split_at es i e h is in
     let P : List Expression → Type 0 = λ l. AllHold l s o in
     fails (subst P split (front.from k)).0
 
--- the last expression decides the body's value
+-- the last expression gives the body's value
 pub body_value-last : (es : List Expression) (s : Substitution) (o : Datum) (e : Expression) → slice_get es (length es - 1) ≡ Some e → body_value es s o ≡ value_of Body e s o
 body_value-last [] s o e h = absurd (cc)
 body_value-last (x ∷ []) s o e h = let same : x ≡ e = cc in ap (λ y. value_of Body y s o) same
@@ -57,7 +57,7 @@ body_value-none (x ∷ y ∷ es) s o h =
     let next = rw count at h in
     body_value-none (y ∷ es) s o next
 
--- the clauses that are left decide
+-- after a clause that does not apply, the remaining clauses decide
 pub Means-skip : (cs : Specification) (i : ℕ) (c : Clause) (o : Datum) (answer : Option Datum) → i < length cs → c ≡ get_or cs i c → ¬ IsApplicable c o → Means (drop (i + 1) cs) o answer → Means (drop i cs) o answer
 Means-skip cs i c o answer h is never rest =
     let P : Specification → Type 0 = λ l. Means l o answer in
@@ -71,7 +71,7 @@ Means-here cs i c o answer s h is applies value =
 pub Means-end : (cs : Specification) (i : ℕ) (o : Datum) → length cs ≤ i → Means (drop i cs) o None
 Means-end cs i o end = let P : Specification → Type 0 = λ l. Means l o None in subst P (sym (drop_all i cs end)) refl
 
--- a clause applies by what its slots hold, or by nothing
+-- a clause applies with the values of its slots, or not at all
 pub clause-applies : (c : Clause) (s t : Substitution) (o p : Datum) (es : List Expression) → t ≡ s → p ≡ o → es ≡ c.conditions → Matches c.head s o → AllHold es t p → Applies c s o
 clause-applies c s t o p es bound object conditions match hold =
     let P : Substitution → Type 0 = λ r. AllHold es r p in

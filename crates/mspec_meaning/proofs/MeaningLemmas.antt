@@ -1,4 +1,4 @@
--- A specification means one answer, and none only where no clause applies.
+-- A specification has one answer, and none only if no clause applies.
 use Rattle.std.proofs.Common.{◌≡◌, inl, inr, ℕ, ◌<◌, ◌==◌, ◌||◌, cond, Bool, true, false, Option, Some, None, option_map, List, [], ◌∷◌, length, refl, sym, ◌∙◌, ap, subst, arith}
 use Rattle.std.specs.List.{All}
 use Rattle.std.specs.Option.{IsSome}
@@ -91,7 +91,7 @@ or_step-some (Some d) rest h k = or_at-some (boolean_of d) rest k
 
 module _ (vs : List ℕ) (s : Substitution) (o : Datum) (known : (n : ℕ) → is_among vs n ≡ true → IsSome (lookup s n)) where
   mutual
-    -- a sound expression of a body has a value
+    -- a sound expression in a body has a value
     pub value-some : (e : Expression) (position : Position) → IsSoundExpression vs e → IsSome (value_at Body e position s o)
     value-some (bound n) position h = known n h
     value-some object position h = refl

@@ -20,7 +20,7 @@ use Rattle.mspec_syntax.specs.Mode.Position.{as_tail}
 use Rattle.mspec_meaning.specs.Value.{decided}
 use Rattle.mspec_syntax.specs.declared.mode.Mode.{Mode}
 
--- pairs, and then those of a map
+-- pairs followed by those of a map
 abbrev pub entries_before : List (Datum × Datum) → Entries → Entries
 entries_before [] es = es
 entries_before (p ∷ ps) es = entry p.0 p.1 (entries_before ps es)
@@ -84,7 +84,7 @@ rises-at k (Some v) None es is h = absurd (cc)
 rises-at k (Some v) (Some fs) es is h = let same : entry k v fs ≡ es = cc in subst AreRising same (h fs refl)
 
 module _ (mode : Mode) (s : Substitution) (o : Datum) where
-  -- the values so far, and those of the arguments that are left
+  -- the values so far, and those of the remaining arguments
   abbrev pub ValuesFront : List Expression → ℕ → List Datum → Type 0
   ValuesFront es i vs =
       option_map (λ r. vs ++ r) (argument_values mode (expressions_of (drop i es)) s o) ≡ argument_values mode (expressions_of es) s o
@@ -143,7 +143,7 @@ module _ (mode : Mode) (s : Substitution) (o : Datum) where
       ∙ ap (λ l. option_map (entries_before ps) (entry_values mode (assignments_of l) s o)) (sym (drop_all i ms end))
       ∙ front
 
-  -- the arguments that are left decide
+  -- the remaining arguments decide
   abbrev pub DecidedFront : Bool → List Expression → ℕ → Type 0
   DecidedFront b es i = decided b mode (expressions_of (drop i es)) s o ≡ decided b mode (expressions_of es) s o
 
@@ -151,7 +151,7 @@ module _ (mode : Mode) (s : Substitution) (o : Datum) where
   decided-first true e es = refl
   decided-first false e es = refl
 
-  -- what an argument's value makes of the arguments behind it
+  -- an argument's value and the arguments after it give the value of the whole
   pub DecidedFront-step : (b : Bool) (es : List Expression) (i : ℕ) (e : Expression) (value : Option Datum) → i < length es → e ≡ get_or es i e → value ≡ value_of mode e s o → DecidedFront b es i → decided_at b mode value (decided b mode (expressions_of (drop (i + 1) es)) s o) ≡ decided b mode (expressions_of es) s o
   DecidedFront-step b es i e value h is same front =
       ap (λ x. decided_at b mode x (decided b mode (expressions_of (drop (i + 1) es)) s o)) same
@@ -167,7 +167,7 @@ module _ (mode : Mode) (s : Substitution) (o : Datum) where
   DecidedFront-all b es i end front =
       decided-none b ∙ ap (λ l. decided b mode (expressions_of l) s o) (sym (drop_all i es end)) ∙ front
 
-  -- by itself and as a tail what is no list has one value
+  -- a tail that is not a list has the same value by itself and as a tail
   tail-value : {A : Type 0} (tail : Option (Box Expression A)) → IsTailExpression tail
       → value_at mode (tail_expression tail) as_tail s o ≡ value_of mode (tail_expression tail) s o
   tail-value None h = refl
@@ -209,7 +209,7 @@ module _ (mode : Mode) (s : Substitution) (o : Datum) where
   below-next k no_assignments es is h = let same : no_entries ≡ es = cc in subst (IsBelowFirst k) same tt
   below-next k (assignment l e ms) es is h = below-at k l (value_of mode e s o) (entry_values mode ms s o) es is h
 
-  -- a map's keys stay as they are
+  -- a map that is made keeps its keys in ascending order
   pub entries-rise : (ms : Assignments) (es : Entries) → Some es ≡ entry_values mode ms s o → AreKeysRising (assignment_keys ms) → AreRising es
   entries-rise no_assignments es is h = let same : no_entries ≡ es = cc in subst AreRising same tt
   entries-rise (assignment k e ms) es is h =

@@ -8,23 +8,23 @@ use Rattle.mspec_match.specs.Match.{Substitution}
 use Rattle.mspec_syntax.specs.Sound.{IsSoundClause}
 use Rattle.mspec_meaning.specs.Meaning.{Applies, IsApplicable, Means, body_value}
 
--- the empty specification answers nothing on any object
+-- the empty specification has no answer on any object
 abbrev pub EmptyAnswersNothing : Type 0
 EmptyAnswersNothing = (o : Datum) (answer : Option Datum) → Means [] o answer → answer ≡ None
 
--- where the first clause applies, the specification answers what this clause answers alone
+-- if the first clause applies, the specification has the answer of this clause alone
 abbrev pub FirstAnswers : Type 0
 FirstAnswers =
     (c : Clause) (cs : Specification) (o : Datum) (answer : Option Datum) → IsApplicable c o
     → (Means (c ∷ cs) o answer ↔ Means (c ∷ []) o answer)
 
--- where it doesn't, it answers what the other clauses answer
+-- if the first clause does not apply, the specification has the answer of the other clauses
 abbrev pub OthersAnswer : Type 0
 OthersAnswer =
     (c : Clause) (cs : Specification) (o : Datum) (answer : Option Datum) → ¬ IsApplicable c o
     → (Means (c ∷ cs) o answer ↔ Means cs o answer)
 
--- a specification means one answer on an object
+-- a specification has one answer on an object
 abbrev pub HasOneMeaning : Type 0
 HasOneMeaning =
     (spec : Specification) (o : Datum) (a b : Option Datum) → Means spec o a → Means spec o b
@@ -36,7 +36,7 @@ ApplicableHasValue =
     (c : Clause) (s : Substitution) (o : Datum) → IsSoundClause c → Applies c s o
     → IsSome (body_value c.body s o)
 
--- so a specification of sound clauses answers nothing exactly where no clause applies
+-- a specification of sound clauses has no answer exactly if no clause applies
 abbrev pub NothingWhereNoneApplies : Type 0
 NothingWhereNoneApplies =
     (spec : Specification) (o : Datum) → All IsSoundClause spec

@@ -23,28 +23,28 @@ use Rattle.mspec_syntax.specs.declared.mode.Mode.TheVariants.{Condition, Body}
 abbrev pub true_term : Datum
 true_term = atom (codes "true")
 
--- a value and those behind it, where all are there
+-- a value followed by other values, None if one of them is missing
 abbrev pub before : Option Datum → Option (List Datum) → Option (List Datum)
 before (Some d) (Some ds) = Some (d ∷ ds)
 before d ds = None
 
--- a key's value and the pairs behind it, where all are there
+-- a key with its value followed by other pairs, None if a value is missing
 abbrev pub at_key : Datum → Option Datum → Option Entries → Option Entries
 at_key k (Some v) (Some es) = Some (entry k v es)
 at_key k v es = None
 
--- a head and a tail as a list, where both are there
+-- the list of a head and a tail, None if one of them is missing
 abbrev pub joined : Option Datum → Option Datum → Option Datum
 joined (Some head) (Some tail) = Some (cons head tail)
 joined head tail = None
 
--- a list that is made, of which the limits are looked at as a whole, and so not in its tail
+-- the value of a list that is made; its limits are checked for the list as a whole, not for its tails
 abbrev pub made_list : Mode → Position → Option Datum → Option Datum
 made_list mode by_itself list = made_of mode list
 made_list mode as_tail list = list
 
 abbrev mutual
-  -- the value of an expression that stands at this position
+  -- the value of an expression at this position
   pub value_at : Mode → Expression → Position → Substitution → Datum → Option Datum
   value_at mode (bound n) position s o = lookup s n
   value_at mode object position s o = Some o
@@ -61,32 +61,32 @@ abbrev mutual
   value_at mode (new_map ms) position s o =
       made_of mode (option_map map (entry_values mode ms s o))
 
-  -- the values of arguments or elements
+  -- the values of arguments or elements, None if one of them has none
   pub argument_values : Mode → Expressions → Substitution → Datum → Option (List Datum)
   argument_values mode no_expressions s o = Some []
   argument_values mode (expression e es) s o =
       before (value_at mode e by_itself s o) (argument_values mode es s o)
 
-  -- the pairs of a map's keys and their expressions' values
+  -- the keys of a map with the values of their expressions, None if one of them has none
   pub entry_values : Mode → Assignments → Substitution → Datum → Option Entries
   entry_values mode no_assignments s o = Some no_entries
   entry_values mode (assignment k e ms) s o =
       at_key k (value_at mode e by_itself s o) (entry_values mode ms s o)
 
-  -- whether all of these are true, looked at from the left up to the first that is false
+  -- the value of andalso: whether all are true, evaluated from the left up to the first that is false
   pub all_true : Mode → Expressions → Substitution → Datum → Option Datum
   all_true mode no_expressions s o = Some (boolean true)
   all_true mode (expression e es) s o =
       and_step mode (value_at mode e by_itself s o) (all_true mode es s o)
 
-  -- whether one of these is true, looked at from the left up to the first that is
+  -- the value of orelse: whether one is true, evaluated from the left up to the first that is
   pub any_true : Mode → Expressions → Substitution → Datum → Option Datum
   any_true mode no_expressions s o = Some (boolean false)
   any_true mode (expression e es) s o =
       or_step mode (value_at mode e by_itself s o) (any_true mode es s o)
 
--- The value of an expression under a substitution and an object; none where it fails, which it does
--- in conditions alone.
+-- The value of an expression, given a substitution and an object; None if it fails, which has no value in conditions
+-- only.
 abbrev pub value_of : Mode → Expression → Substitution → Datum → Option Datum
 value_of mode e s o = value_at mode e by_itself s o
 
@@ -111,7 +111,7 @@ pub record IsApplicable (c : Clause) (o : Datum) : Type 0 where
   pub substitution : Substitution
   pub applies : Applies c substitution o
 
--- The first clause that applies to the object answers, by the value of its body; where none does
+-- The first clause that applies to the object gives the answer, which is the value of its body. If no clause applies,
 -- there is no answer.
 abbrev pub Means : Specification → Datum → Option Datum → Type 0
 Means [] o answer = answer ≡ None

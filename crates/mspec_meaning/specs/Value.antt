@@ -1,4 +1,4 @@
--- The values of andalso and orelse as one.
+-- The values of andalso and orelse in one definition.
 use Rattle.std.specs.Prelude.{Bool, true, false, Option}
 use Rattle.term_core.specs.Datum.{Datum}
 use Rattle.mspec_syntax.specs.Expression.{Expressions}
@@ -6,7 +6,7 @@ use Rattle.mspec_match.specs.Match.{Substitution}
 use Rattle.mspec_meaning.specs.Meaning.{all_true, any_true}
 use Rattle.mspec_syntax.specs.declared.mode.Mode.{Mode}
 
--- andalso, which is decided by the first argument that is false, or orelse, by the first that is true
+-- the value of andalso (false), decided by the first false argument, or of orelse (true), decided by the first true one
 abbrev pub decided : Bool → Mode → Expressions → Substitution → Datum → Option Datum
 decided false mode es s o = all_true mode es s o
 decided true mode es s o = any_true mode es s o

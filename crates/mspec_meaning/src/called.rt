@@ -1,4 +1,4 @@
-//! Calls of functions over values.
+//! Calls of functions with values.
 use crate::environment::Environment;
 use mspec_match::failure;
 use prims::call_values;
@@ -12,8 +12,8 @@ impl<'s, 'a, A: Allocator + Copy> Environment<'s, 'a, A> {
     ghost use Rattle.term_operand.specs.Value.{value_datum};
     ghost use Rattle.mspec_meaning.specs.Called.{called};
 
-    /// What a call comes to, of its arguments' values where all have one. What it borrows from those that are borrowed
-    /// isn't copied.
+    /// Returns the value of a call, given its arguments' values, or `None` if one of them has none. If the call fails,
+    /// returns the value of what fails. Results that borrow from borrowed values are not copied.
     pub fn called(
         &self,
         function: Primitive,

@@ -12,7 +12,7 @@ use mspec_syntax::{Clause, Expression, Mode, Spec};
 use std::alloc::{AllocError, Allocator};
 use term_core::Term;
 
-/// What a clause comes to on an object.
+/// The result of a clause on an object.
 #[derive(Drop)]
 enum Applied<A: Allocator> {
     /// The clause doesn't apply.
@@ -21,7 +21,7 @@ enum Applied<A: Allocator> {
     Answers(Option<Term<A>>),
 }
 
-/// Whether all conditions have the value `true`.
+/// Returns whether all conditions have the value `true`. Evaluates them up to the first that doesn't.
 fn all_hold<'a, A: Allocator + Copy>(
     environment: &Environment<'_, 'a, A>,
     conditions: &'a [Expression<A>],
@@ -44,7 +44,7 @@ fn all_hold<'a, A: Allocator + Copy>(
     Ok(true)
 }
 
-/// The value of the last expression of a body.
+/// Returns the value of the last expression of a body, or `None` if there is none.
 fn body_answer<'a, A: Allocator + Copy>(
     environment: &Environment<'_, 'a, A>,
     body: &'a [Expression<A>],
@@ -60,7 +60,7 @@ fn body_answer<'a, A: Allocator + Copy>(
     into_term(environment.alloc(), value)
 }
 
-/// What a clause answers on an object, where it applies.
+/// Returns the result of a clause on an object: the value of its body if it applies.
 fn clause_answer<A: Allocator + Copy>(
     alloc: A,
     clause: &Clause<A>,
@@ -82,8 +82,9 @@ fn clause_answer<A: Allocator + Copy>(
     Ok(Applied::Answers(body_answer(&body, clause.body())?))
 }
 
-/// What a specification answers on an object: the value of the body of the first clause whose head matches the object
-/// and whose conditions all have the value `true`. (ERTS User's Guide, "Match Specifications in Erlang", "Semantics".)
+/// Evaluates a specification on an object. Returns the value of the body of the first clause whose head matches the
+/// object and whose conditions all have the value `true`. Returns `None` if there is no such clause. Fails if an
+/// allocation fails. (ERTS User's Guide, "Match Specifications in Erlang", "Semantics".)
 pub fn evaluate<A: Allocator + Copy>(
     alloc: A,
     spec: &Spec<A>,

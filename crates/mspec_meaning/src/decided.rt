@@ -1,13 +1,13 @@
-//! Arguments of `andalso` and `orelse`.
+//! The arguments of `andalso` and `orelse`.
 use crate::environment::Environment;
 use mspec_match::failure;
 use std::alloc::{AllocError, Allocator};
 use term_operand::Value;
 
-/// What an argument says of the whole.
+/// What the value of one argument says about the value of the whole.
 #[derive(Drop)]
 pub enum Verdict<'a, A: Allocator> {
-    /// It leaves the whole to the arguments behind it.
+    /// The arguments after it decide.
     Open,
     /// The whole has this value, or none.
     Ends(Option<Value<'a, A>>),
@@ -20,7 +20,8 @@ impl<'s, 'a, A: Allocator + Copy> Environment<'s, 'a, A> {
     ghost use Rattle.term_operand.specs.Value.{value_datum};
     ghost use Rattle.mspec_meaning.specs.Decided.{comes_to, decided_at};
 
-    /// What an argument of this value says, where this truth value decides.
+    /// Returns the verdict of an argument with this value, where the truth value `decides` decides: `false` for
+    /// `andalso`, `true` for `orelse`.
     pub fn verdict(
         &self,
         value: Option<Value<'a, A>>,

@@ -13,7 +13,7 @@ use std::marker::Model;
 use term_core::Term;
 use term_operand::Value;
 
-/// The value of a variable, each of which has its slot.
+/// Returns the value of a variable, or `None` if it is free or not one of these. Each variable has its slot.
 fn bound_to<'a, A: Allocator>(
     variables: &Variables<A>,
     slots: &[Slot<'a, A>],
@@ -32,7 +32,7 @@ fn bound_to<'a, A: Allocator>(
     }
 }
 
-/// Copies of what the variables are bound to.
+/// Returns copies of the terms to which variables are bound.
 fn copies<A: Allocator + Copy>(
     alloc: A,
     slots: &[Slot<'_, A>],
@@ -49,7 +49,8 @@ fn copies<A: Allocator + Copy>(
     Ok(values)
 }
 
-/// Where an expression stands, what the variables of the head are bound to, and the object.
+/// What the value of an expression depends on: whether it is in a condition or a body, the values of the head's
+/// variables, and the object.
 #[derive(Drop)]
 pub struct Environment<'s, 'a, A: Allocator> {
     heap: &'s A,
@@ -87,7 +88,7 @@ impl<'s, 'a, A: Allocator + Copy> Environment<'s, 'a, A> {
     ghost use Rattle.mspec_match.specs.Slots.{seen, substitution_of};
     ghost use Rattle.term_operand.specs.Value.{value_datum};
 
-    /// The environment of an expression that stands there, each variable of the head having its slot.
+    /// Makes the environment of an expression in a condition or a body. Each variable of the head has its slot.
     pub fn new(
         heap: &'s A,
         mode: Mode,
@@ -110,38 +111,39 @@ impl<'s, 'a, A: Allocator + Copy> Environment<'s, 'a, A> {
         }
     }
 
-    /// What asks for memory.
+    /// Returns a reference to the allocator.
     pub fn heap(&self) -> &'s A {
         self.heap
     }
 
-    /// The allocator of what is made.
+    /// Returns the allocator.
     pub fn alloc(&self) -> A {
         *self.heap
     }
 
-    /// Where the expression stands.
+    /// Returns whether the expression is in a condition or a body.
     pub fn mode(&self) -> Mode
         ensures { result ≡ self.now.mode }
     {
         self.mode
     }
 
-    /// The whole object.
+    /// Returns the whole object.
     pub fn object(&self) -> Value<'a, A>
         ensures { value_datum result ≡ self.now.object }
     {
         Value::Term(self.object)
     }
 
-    /// The value of a variable.
+    /// Returns the value of a variable, or `None` if it has none.
     pub fn bound(&self, number: u32) -> Option<Value<'a, A>>
         ensures { option_map value_datum result ≡ lookup self.now.substitution number }
     {
         bound_to(self.variables, self.slots, number)
     }
 
-    /// Copies of the values of all variables.
+    /// Returns copies of the values of all variables, in ascending order of the variables. Fails if an allocation
+    /// fails.
     pub fn bound_values(&self) -> Result<Vec<Term<A>, A>, AllocError>
         ensures { IfOk result (λ values. values.items ≡ values_of self.now.substitution) }
     {

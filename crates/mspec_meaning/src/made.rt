@@ -1,4 +1,4 @@
-//! Terms that expressions make.
+//! Terms made by expressions.
 ghost use Rattle.std.specs.Prelude.{◌≡◌, ◌++◌, ◌∷◌, [], IfOk, OnOk};
 ghost use Rattle.std.specs.Option.{option_map};
 ghost use Rattle.term_operand.specs.Value.{value_datum};
@@ -10,7 +10,7 @@ use term_build::{make_list, make_map, make_tuple};
 use term_core::Term;
 use term_operand::Value;
 
-/// A value as a term, where there is one.
+/// Returns a value as a term, or `None` if there is no value. Fails if an allocation fails.
 pub fn into_term<A: Allocator + Copy>(
     alloc: A,
     value: Option<Value<'_, A>>,
@@ -23,7 +23,7 @@ pub fn into_term<A: Allocator + Copy>(
     }
 }
 
-/// Adds a value to the elements of a tuple or a list.
+/// Appends a value to the elements of a tuple or a list. Fails if an allocation fails.
 pub fn push_element<A: Allocator + Copy>(
     alloc: A,
     elements: &mut Vec<Term<A>, A>,
@@ -36,7 +36,7 @@ pub fn push_element<A: Allocator + Copy>(
     Ok(())
 }
 
-/// Adds a key and its value to the pairs of a map.
+/// Appends a key and its value to the pairs of a map. Fails if an allocation fails.
 pub fn push_entry<A: Allocator + Copy>(
     alloc: A,
     pairs: &mut Vec<(Term<A>, Term<A>), A>,
@@ -62,7 +62,7 @@ impl<'s, 'a, A: Allocator + Copy> Environment<'s, 'a, A> {
     ghost use Rattle.mspec_match.specs.Match.{values_of};
     ghost use Rattle.mspec_meaning.specs.Made.{joined_to, made, made_of, or_failed};
 
-    /// A term that was made, else the value of what fails.
+    /// Returns a term that was made as a value, or the value of what fails if it is `None`.
     fn or_failure(&self, made: Option<Term<A>>) -> Result<Option<Value<'a, A>>, AllocError>
         ensures { IfOk result (λ value. option_map value_datum value
             ≡ or_failed self.now.mode made) }
@@ -73,7 +73,7 @@ impl<'s, 'a, A: Allocator + Copy> Environment<'s, 'a, A> {
         }
     }
 
-    /// The list of the values of all variables.
+    /// Returns the list of the values of all variables, or the value of what fails if it exceeds a limit.
     pub fn bindings(&self) -> Result<Option<Value<'a, A>>, AllocError>
         ensures { IfOk result (λ value. option_map value_datum value
             ≡ made self.now.mode (cells (values_of self.now.substitution) nil)) }
@@ -82,7 +82,8 @@ impl<'s, 'a, A: Allocator + Copy> Environment<'s, 'a, A> {
         self.list(values, Some(Term::nil()))
     }
 
-    /// The tuple of these elements, where all have a value.
+    /// Returns the tuple of these elements, or `None` if one of them has no value. If the tuple exceeds a limit,
+    /// returns the value of what fails.
     pub fn tuple(
         &self,
         elements: Option<Vec<Term<A>, A>>,
@@ -96,7 +97,8 @@ impl<'s, 'a, A: Allocator + Copy> Environment<'s, 'a, A> {
         }
     }
 
-    /// The list of these elements and this tail, where it has a value.
+    /// Returns the list of these elements and this tail, or `None` if the tail has no value. If the list exceeds a
+    /// limit, returns the value of what fails.
     pub fn list(
         &self,
         elements: Vec<Term<A>, A>,
@@ -111,7 +113,8 @@ impl<'s, 'a, A: Allocator + Copy> Environment<'s, 'a, A> {
         }
     }
 
-    /// The map of these pairs, where all have a value.
+    /// Returns the map of these pairs, or `None` if one of them has no value. If the map exceeds a limit, returns the
+    /// value of what fails.
     pub fn map(
         &self,
         pairs: Option<Vec<(Term<A>, Term<A>), A>>,

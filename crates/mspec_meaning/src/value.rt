@@ -17,7 +17,7 @@ use std::alloc::{AllocError, Allocator};
 use term_core::Term;
 use term_operand::Value;
 
-/// The value of an expression; none where it fails.
+/// Returns the value of an expression, or `None` if it fails in a condition.
 #[cycle(value)]
 pub(crate) fn value<'s, 'a, A: Allocator + Copy>(
     environment: &Environment<'s, 'a, A>,
@@ -50,7 +50,7 @@ pub(crate) fn value<'s, 'a, A: Allocator + Copy>(
     }
 }
 
-/// The values of a call's arguments, none where one has none.
+/// Returns the values of a call's arguments, or `None` if one has no value.
 #[cycle(value)]
 fn values<'s, 'a, A: Allocator + Copy>(
     environment: &Environment<'s, 'a, A>,
@@ -70,7 +70,7 @@ fn values<'s, 'a, A: Allocator + Copy>(
     Ok(Some(values))
 }
 
-/// The values of a tuple's or a list's elements as terms, none where one has none.
+/// Returns the values of a tuple's or a list's elements as terms, or `None` if one has no value.
 #[cycle(value)]
 fn terms<'s, 'a, A: Allocator + Copy>(
     environment: &Environment<'s, 'a, A>,
@@ -90,7 +90,7 @@ fn terms<'s, 'a, A: Allocator + Copy>(
     Ok(Some(terms))
 }
 
-/// The keys of a map and the values of their expressions, none where one has none.
+/// Returns the keys of a map with the values of their expressions, or `None` if one has no value.
 #[cycle(value)]
 fn pairs<'s, 'a, A: Allocator + Copy>(
     environment: &Environment<'s, 'a, A>,
@@ -110,7 +110,7 @@ fn pairs<'s, 'a, A: Allocator + Copy>(
     Ok(Some(pairs))
 }
 
-/// The value of a list of elements and a tail.
+/// Returns the value of a list of elements and a tail, or `None` if one of them has no value.
 #[cycle(value)]
 fn list<'s, 'a, A: Allocator + Copy>(
     environment: &Environment<'s, 'a, A>,
@@ -129,7 +129,7 @@ fn list<'s, 'a, A: Allocator + Copy>(
     environment.list(elements, tail)
 }
 
-/// The value of a list's tail, `[]` where there is none.
+/// Returns the value of a list's tail, `[]` without a tail, or `None` if the tail has no value.
 #[cycle(value)]
 fn tail_term<'s, 'a, A: Allocator + Copy>(
     environment: &Environment<'s, 'a, A>,
@@ -145,8 +145,8 @@ fn tail_term<'s, 'a, A: Allocator + Copy>(
     into_term(environment.alloc(), value)
 }
 
-/// The value of `andalso` of these, or of `orelse` where `true` decides. They are looked at up to the first that
-/// decides.
+/// Returns the value of `andalso` of these arguments if `decides` is false, of `orelse` if it is true. Evaluates them
+/// up to the first that decides.
 #[cycle(value)]
 fn decide<'s, 'a, A: Allocator + Copy>(
     environment: &Environment<'s, 'a, A>,

@@ -14,7 +14,7 @@ mentions-cells test [] tail = refl
 mentions-cells test (d ∷ ds) tail =
     ap (λ b. mentions test d || b) (mentions-cells test ds tail) ∙ or_assoc (mentions test d) (items_mention test (items_of ds)) (mentions test tail)
 
--- a list mentions what its elements and its tail do
+-- the atoms in a list are those in its elements and its tail
 pub mentions-list : (test : Word → Bool) (ds : List Datum) (t : Option Datum) (d : Datum) → cells ds (tail_of t) ≡ d → mentions test d ≡ (items_mention test (items_of ds) || mentions test (tail_of t))
 mentions-list test ds t d is = ap (mentions test) (sym is) ∙ mentions-cells test ds (tail_of t)
 
@@ -22,7 +22,7 @@ or_false : (a : Bool) → (a || false) ≡ a
 or_false true = refl
 or_false false = refl
 
--- a proper list mentions what its elements do
+-- the atoms in a proper list are those in its elements
 pub mentions-proper : (test : Word → Bool) (ds : List Datum) (t : Option Datum) (d : Datum) (r : Bool) → t ≡ None → cells ds (tail_of t) ≡ d → r ≡ items_mention test (items_of ds) → r ≡ mentions test d
 mentions-proper test ds None d r e is h =
     h ∙ sym (mentions-list test ds None d is ∙ or_false (items_mention test (items_of ds)))

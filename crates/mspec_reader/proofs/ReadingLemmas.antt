@@ -1,5 +1,5 @@
--- Expressions, clauses and specifications read from terms: what is read has no fault, and readings of lists from the
--- readings of their elements.
+-- Expressions, clauses and specifications read from terms: what is read has no fault, and lists are read by reading
+-- their elements.
 use Rattle.std.proofs.Common.{◌≡◌, ℕ, suc, ◌+◌, ◌<◌, ◌≤◌, true, inl, inr, Option, Some, None, MatchResult, Result, Ok, Err, IfOk, IfErr, List, [], ◌∷◌, ◌++◌, length, get_or, drop, refl, sym, ◌∙◌, ap, subst, arith, add-one}
 use Rattle.std.specs.Prelude.{◌≢◌}
 use Rattle.std.proofs.lemmas.List.{append_assoc, append-nil, drop_all}
@@ -21,7 +21,7 @@ use Rattle.mspec_syntax.specs.declared.fault.SpecFault.TheVariants.{Memory, NotA
 use Rattle.mspec_syntax.proofs.PatternLemmas.{both_empty, split_at, IsPattern-variables, IsPattern-one, ArePatterns-faults, Refuses-before, Refuses-behind, Refuses-same}
 use Rattle.mspec_syntax.proofs.ExpressionLemmas.{IsExpression-faults, IsExpression-one}
 
--- a list is no clause
+-- a list is not a clause
 pub list-clause : (clause : ℕ) (ds : List Datum) (t d : Datum) → cells ds t ≡ d → 0 < length ds → Refuses (NotAClause clause) (clause_faults clause d)
 list-clause clause [] t d is some = absurd (omega arith)
 list-clause clause (x ∷ ds) t d is some =
@@ -67,7 +67,7 @@ IsAtomPattern-hole cs word.Object p h form = absurd (subst IsHeadForm h form)
 IsAtomPattern-hole cs word.Bindings p h form = absurd (subst IsHeadForm h form)
 IsAtomPattern-hole cs word.Plain p h form = absurd (subst IsHeadForm h form)
 
--- a head has no fault
+-- a term that is read as a head has no fault
 pub IsHead-faults : (i : ℕ) (d : Datum) (p : Pattern) → IsPattern d p → IsHeadForm p → head_faults i d ≡ []
 IsHead-faults i (integer z) p h form = absurd (subst IsHeadForm h form)
 IsHead-faults i (atom cs) p h form = rw (IsAtomPattern-hole cs (word_of cs) p h form) refl
@@ -80,7 +80,7 @@ IsHead-faults i (cons head tail) (cell_of p q) h form = absurd form
 IsHead-faults i (cons head tail) p h form = absurd h
 IsHead-faults i (binary bs) p h form = absurd (subst IsHeadForm h form)
 
--- the variables of a head that was read
+-- the variables of a head that was read are those that its term names
 pub head-variables : (d : Datum) (p : Pattern) → IsPattern d p → rising (pattern_variables p) ≡ rising (named_variables d)
 head-variables d p h = ap rising (sym (IsPattern-variables d p h))
 
@@ -115,7 +115,7 @@ ExpressionsFront-refuses clause vs ds i x es f within is front h =
     let known = rw split at front.clean in
     Refuses-same f _ _ known (Refuses-before f (expression_faults clause vs x) (expressions_faults clause vs (drop (i + 1) ds)) h)
 
--- the body of the elements that were found
+-- a body is read by reading its elements, of which there are some
 pub body-read : (vs : List ℕ) (o : Option (List Datum)) (ds : List Datum) (es : List Expression) → Some ds ≡ o → 0 < length ds → AreExpressions vs ds es → AreBodyExpressions vs o es
 body-read vs o [] es e some h = absurd (omega arith)
 body-read vs o (d ∷ ds) es e some h = let P : Option (List Datum) → Type 0 = λ x. AreBodyExpressions vs x es in subst P e h
@@ -124,7 +124,7 @@ pub body-refused : (clause : ℕ) (vs : List ℕ) (o : Option (List Datum)) (ds 
 body-refused clause vs o [] f e some h = absurd (omega arith)
 body-refused clause vs o (d ∷ ds) f e some h = Refuses-same f _ _ (ap (body_faults clause vs) e) h
 
--- three terms are the elements of a tuple, and another number of them is no tuple of three
+-- three terms are the elements of a tuple of three, and any other number is not
 pub three-triple : (ds : List Datum) (d a b c : Datum) → tuple (items_of ds) ≡ d → length ds ≡ 3 → a ≡ get_or ds 0 a → b ≡ get_or ds 1 b → c ≡ get_or ds 2 c → triple a b c ≡ d
 three-triple [] d a b c is three e f h = absurd (omega arith)
 three-triple (x ∷ []) d a b c is three e f h = absurd (omega arith)
@@ -150,7 +150,7 @@ no_triple-items i (item a (item b no_items)) h = refl
 no_triple-items i (item a (item b (item c no_items))) h = absurd h
 no_triple-items i (item a (item b (item c (item d ds)))) h = refl
 
--- what is no tuple of three is no clause
+-- the fault of a term that is not a tuple of three is that it is not a clause
 pub no_triple-faults : (i : ℕ) (d : Datum) → IsNoTriple d → clause_faults i d ≡ NotAClause i ∷ []
 no_triple-faults i (integer z) h = refl
 no_triple-faults i (atom cs) h = refl
@@ -194,7 +194,7 @@ IsTuple-faults i (item x (item y no_items)) c h = absurd h
 IsTuple-faults i (item x (item y (item z no_items))) c h = IsTriple-faults i x y z c h
 IsTuple-faults i (item x (item y (item z (item w ds)))) c h = absurd h
 
--- what is read as a clause has no fault
+-- a term that is read as a clause has no fault
 pub IsClause-faults : (i : ℕ) (d : Datum) (c : Clause) → IsClause d c → clause_faults i d ≡ []
 IsClause-faults i (integer z) c h = absurd h
 IsClause-faults i (atom cs) c h = absurd h
@@ -284,7 +284,7 @@ ClausesFront-refuses ds i x cs f within is front h =
     let known = rw split at front.clean in
     Refuses-same f _ _ known (Refuses-before f (clause_faults i x) (clauses_faults (suc i) (drop (i + 1) ds)) h)
 
--- the clauses of the elements that were found
+-- a specification is read by reading the elements of its list
 pub specification-read : (d : Datum) (ds : List Datum) (s : Specification) → Some ds ≡ proper_elements d → AreClauses ds s → IsSpecification d s
 specification-read d ds s e h = let P : Option (List Datum) → Type 0 = λ o. AreElementsClauses o s in subst P e h
 
@@ -294,7 +294,7 @@ specification-refused d ds f e h = Refuses-same f _ _ (ap elements_faults e) h
 pub no_list-refused : (d : Datum) → None ≡ proper_elements d → Refuses NotAList (specification_faults d)
 no_list-refused d e = inr (record { others = []; first = ap elements_faults (sym e) })
 
--- a size that is refused
+-- why a specification is rejected for its size is why its term is rejected
 pub size-refused : (d : Datum) (s : Specification) (f : SpecFault) → IsSpecification d s → IsSizeRefusal f s → IsRefusal f d
 size-refused d s f is (inl e) = inl (inl e)
 size-refused d s f is (inr h) = inr (h.0, record { specification = s; is = is; large = h.1 })
@@ -307,11 +307,11 @@ IsElements-one : (o : Option (List Datum)) (r s : Specification) → AreElements
 IsElements-one None r s h k = absurd h
 IsElements-one (Some ds) r s h k = AreClauses-one ds r s h k
 
--- a term is read as one specification
+-- a term is read as at most one specification
 pub IsSpecification-one : (d : Datum) (r s : Specification) → IsSpecification d r → IsSpecification d s → r ≡ s
 IsSpecification-one d r s h k = IsElements-one (proper_elements d) r s h k
 
--- a specification that is not too large is refused for want of memory alone
+-- reading a specification within the limits fails only if memory runs out
 pub refused-memory : (d : Datum) (s : Specification) (f : SpecFault) → IsSpecification d s → IsWithinLimits s → IsRefusal f d → f ≡ Memory
 refused-memory d s f h small (inl (inl e)) = e
 refused-memory d s f h small (inl (inr fault)) =
@@ -320,7 +320,7 @@ refused-memory d s f h small (inr large) =
     let P : Specification → Type 0 = λ x. IsWithinLimits x in
     absurd (large.1.large (subst P (IsSpecification-one d s large.1.specification h large.1.is) small))
 
--- beside want of memory a term is refused for one fault
+-- apart from out of memory, a term has at most one fault for which it is rejected
 pub refusal-one : (d : Datum) (f g : SpecFault) → IsRefusal f d → IsRefusal g d → f ≢ Memory → g ≢ Memory → f ≡ g
 refusal-one d f g (inl (inl e)) second some other = absurd (some e)
 refusal-one d f g first (inl (inl e)) some other = absurd (other e)
@@ -332,7 +332,7 @@ refusal-one d f g (inr large) (inl (inr fault)) some other =
     absurd (let e = sym (IsElements-faults (proper_elements d) large.1.specification large.1.is) ∙ fault.first in cc)
 refusal-one d f g (inr large) (inr also) some other = large.0 ∙ sym also.0
 
--- what the clauses of a term, cut by size, are
+-- the only specification of a term is that of the clauses read, if it is within the limits
 pub only-read : (d : Datum) (s cs : Specification) (r : Result Specification SpecFault) → IsSpecification d cs → IsSpecification d s → IsWithinLimits s → IfOk r (λ x. (x ≡ cs) × IsWithinLimits x) → IfErr r (λ f. IsSizeRefusal f cs) → MatchResult r (λ x. x ≡ s) (λ f. f ≡ Memory)
 only-read d s cs (Ok x) is h small ok err = ok.0 ∙ IsSpecification-one d cs s is h
 only-read d s cs (Err f) is h small ok err = refused-memory d s f h small (size-refused d cs f is err)

@@ -1,6 +1,6 @@
 //! Conditions and bodies read from terms.
 ghost use Rattle.std.specs.Prelude.{◌≡◌, IfOk, IfErr, Option};
-ghost use Rattle.std.specs.Option.{option_copied};
+ghost use Rattle.std.specs.Str.{chars};
 ghost use Rattle.std.specs.Prelude.{length};
 ghost use Rattle.term_core.specs.Datum.{items_of, entries_of, proper_elements};
 ghost use Rattle.term_core.specs.Datum.Datum.{atom, tuple};
@@ -16,22 +16,22 @@ use mspec_syntax::{Callee, Expression, ExpressionKind, SpecFault, Variables, Wor
 use std::alloc::Allocator;
 use term_core::{Term, View};
 
-/// The expression that an atom in a condition or the body of the clause is read as, which has these
-/// characters.
+/// Returns the expression for the atom of this text in a condition or the body of the clause. Fails if it is an
+/// unbound variable or a wrong variable name.
 fn read_atom<A: Allocator + Copy>(
     alloc: A,
     clause: usize,
     variables: &Variables<A>,
     term: &Term<A>,
-    characters: &[char],
+    text: &str,
 ) -> Result<Expression<A>, SpecFault>
-    requires { atom characters.now ≡ term.now }
+    requires { atom (chars text.now) ≡ term.now }
     ensures ok { IfOk result (λ e.
-        IsAtomExpression variables.now characters.now (word_of characters.now) e) }
+        IsAtomExpression variables.now (chars text.now) (word_of (chars text.now)) e) }
     ensures refused { IfErr result (λ f.
-        Refuses f (word_faults clause variables.now (word_of characters.now))) }
+        Refuses f (word_faults clause variables.now (word_of (chars text.now)))) }
 {
-    match Word::new(characters) {
+    match Word::new(text) {
         Word::Variable(number) => {
             if !variables.contains(number) {
                 return Err(SpecFault::Unbound(clause, number));
@@ -45,7 +45,7 @@ fn read_atom<A: Allocator + Copy>(
     }
 }
 
-/// A term that stands for itself.
+/// Returns the expression of a term that means itself.
 fn read_constant<A: Allocator + Copy>(term: &Term<A>) -> Result<Expression<A>, SpecFault>
     ensures ok { IfOk result (λ e. e ≡ constant term.now) }
     ensures refused { IfErr result (λ f. f ≡ SpecFault.Memory) }
@@ -53,7 +53,7 @@ fn read_constant<A: Allocator + Copy>(term: &Term<A>) -> Result<Expression<A>, S
     Ok(Expression::new(ExpressionKind::Constant(term.copy()?)))
 }
 
-/// The expression that a term in a condition or the body of the clause is read as.
+/// Returns the expression for a term in a condition or the body of the clause. Fails with its first fault.
 #[cycle(expression)]
 fn read_expression<A: Allocator + Copy>(
     alloc: A,
@@ -67,7 +67,7 @@ fn read_expression<A: Allocator + Copy>(
 {
     match term.view() {
         View::Integer(_) | View::Nil | View::Binary(_) => read_constant(term),
-        View::Atom(characters) => read_atom(alloc, clause, variables, term, characters),
+        View::Atom(text) => read_atom(alloc, clause, variables, term, text),
         View::Tuple(elements) => read_tuple(alloc, clause, variables, elements),
         View::List(elements, None) => {
             let elements = read_parts(alloc, clause, variables, elements)?;
@@ -86,7 +86,7 @@ fn read_expression<A: Allocator + Copy>(
     }
 }
 
-/// The expression that a tuple of these elements is read as: a call, or a tuple that is made.
+/// Returns the expression for a tuple of these elements: a call, or a tuple that is made. Fails with its first fault.
 #[cycle(expression)]
 fn read_tuple<A: Allocator + Copy>(
     alloc: A,
@@ -102,8 +102,8 @@ fn read_tuple<A: Allocator + Copy>(
         return Err(SpecFault::BadExpression(clause));
     };
     match first.view() {
-        View::Atom(characters) => {
-            let callee = Callee::new(characters, rest.len());
+        View::Atom(name) => {
+            let callee = Callee::new(name, rest.len());
             read_call(alloc, clause, variables, callee, rest)
         }
         View::Tuple(parts) => read_construction(alloc, clause, variables, parts, rest),
@@ -115,8 +115,8 @@ fn read_tuple<A: Allocator + Copy>(
     }
 }
 
-/// The expression that a tuple is read as whose first element is a tuple of these parts, which has
-/// to be its only one.
+/// Returns the expression for a tuple whose first element is a tuple of these parts. Fails if that is not the only
+/// element.
 #[cycle(expression)]
 fn read_construction<A: Allocator + Copy>(
     alloc: A,
@@ -138,7 +138,8 @@ fn read_construction<A: Allocator + Copy>(
     Ok(Expression::new(ExpressionKind::Tuple(parts)))
 }
 
-/// The expression that a call with these arguments is read as.
+/// Returns the expression for a call with these arguments. Fails if there is no such function, or with the arguments'
+/// first fault.
 #[cycle(expression)]
 fn read_call<A: Allocator + Copy>(
     alloc: A,
@@ -176,7 +177,7 @@ fn read_call<A: Allocator + Copy>(
     }
 }
 
-/// The expressions of arguments or elements.
+/// Returns the expressions for arguments or elements. Fails with their first fault.
 #[cycle(expression)]
 fn read_parts<A: Allocator + Copy>(
     alloc: A,
@@ -197,7 +198,7 @@ fn read_parts<A: Allocator + Copy>(
     Ok(parts)
 }
 
-/// The keys of a map, which stand for themselves, and the expressions of its values.
+/// Returns the keys of a map, which mean themselves, with the expressions for its values. Fails with their first fault.
 #[cycle(expression)]
 fn read_assignments<A: Allocator + Copy>(
     alloc: A,
@@ -219,7 +220,7 @@ fn read_assignments<A: Allocator + Copy>(
     Ok(assignments)
 }
 
-/// The expressions that these terms are read as.
+/// Returns the expressions for these terms. Fails with their first fault.
 fn read_expressions<A: Allocator + Copy>(
     alloc: A,
     clause: usize,
@@ -238,7 +239,7 @@ fn read_expressions<A: Allocator + Copy>(
     Ok(expressions)
 }
 
-/// The conditions of a clause.
+/// Returns the conditions of a clause. Fails if the term is not a proper list, or with its elements' first fault.
 pub(crate) fn read_conditions<A: Allocator + Copy>(
     alloc: A,
     clause: usize,
@@ -256,7 +257,8 @@ pub(crate) fn read_conditions<A: Allocator + Copy>(
     }
 }
 
-/// The expressions of a clause's body, of which there is one at least.
+/// Returns the expressions of a clause's body. Fails if the term is not a proper list with at least one element, or
+/// with its elements' first fault.
 pub(crate) fn read_body<A: Allocator + Copy>(
     alloc: A,
     clause: usize,

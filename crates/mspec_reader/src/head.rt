@@ -10,14 +10,14 @@ use mspec_syntax::{Pattern, PatternKind, Sought, SpecFault, Word};
 use std::alloc::Allocator;
 use term_core::{Term, View};
 
-/// Whether an atom of this kind stands somewhere in the term.
+/// Returns whether an atom of this kind occurs in the term.
 #[cycle(mention)]
 fn mentions<A: Allocator>(term: &Term<A>, sought: Sought) -> bool
     ensures { result ≡ mentions (is_sought sought) term.now }
 {
     match term.view() {
         View::Integer(_) | View::Nil | View::Binary(_) => false,
-        View::Atom(characters) => Word::new(characters).is(sought),
+        View::Atom(text) => Word::new(text).is(sought),
         View::Tuple(elements) => any_mentions(elements, sought),
         View::List(elements, None) => any_mentions(elements, sought),
         View::List(elements, Some(tail)) => any_mentions(elements, sought)
@@ -26,7 +26,7 @@ fn mentions<A: Allocator>(term: &Term<A>, sought: Sought) -> bool
     }
 }
 
-/// Whether an atom of this kind stands somewhere in these terms.
+/// Returns whether an atom of this kind occurs in one of these terms.
 #[cycle(mention)]
 fn any_mentions<A: Allocator>(terms: &[Term<A>], sought: Sought) -> bool
     ensures { result ≡ items_mention (is_sought sought) (items_of terms.now) }
@@ -39,7 +39,7 @@ fn any_mentions<A: Allocator>(terms: &[Term<A>], sought: Sought) -> bool
     false
 }
 
-/// Whether an atom of this kind stands somewhere in these pairs.
+/// Returns whether an atom of this kind occurs in one of these pairs.
 #[cycle(mention)]
 fn any_pair_mentions<A: Allocator>(pairs: &[(Term<A>, Term<A>)], sought: Sought) -> bool
     ensures { result ≡ entries_mention (is_sought sought) (entries_of pairs.now) }
@@ -52,7 +52,7 @@ fn any_pair_mentions<A: Allocator>(pairs: &[(Term<A>, Term<A>)], sought: Sought)
     false
 }
 
-/// Tests that a key of a map stands for itself.
+/// Tests that a key of a map means itself. Fails if a variable, `'_'` or a wrong variable name occurs in it.
 fn test_key<A: Allocator>(clause: usize, key: &Term<A>) -> Result<(), SpecFault>
     ensures ok { OnOk result (IsKey key.now) }
     ensures refused { IfErr result (λ f. IsFirst f (key_faults clause key.now)) }
@@ -66,7 +66,7 @@ fn test_key<A: Allocator>(clause: usize, key: &Term<A>) -> Result<(), SpecFault>
     Ok(())
 }
 
-/// The pattern that a term inside the head of a clause is read as.
+/// Returns the pattern for a term inside the head of a clause. Fails with its first fault.
 #[cycle(pattern)]
 fn read_pattern<A: Allocator + Copy>(
     alloc: A,
@@ -80,7 +80,7 @@ fn read_pattern<A: Allocator + Copy>(
         View::Integer(_) | View::Nil | View::Binary(_) => {
             Ok(Pattern::new(PatternKind::Literal(term.copy()?)))
         }
-        View::Atom(characters) => match Word::new(characters) {
+        View::Atom(text) => match Word::new(text) {
             Word::Variable(number) => Ok(Pattern::new(PatternKind::Variable(number))),
             Word::Underscore => Ok(Pattern::new(PatternKind::Anything)),
             Word::Misnumbered => Err(SpecFault::BadVariableName(clause)),
@@ -107,7 +107,7 @@ fn read_pattern<A: Allocator + Copy>(
     }
 }
 
-/// The patterns of terms that stand beside each other.
+/// Returns the patterns for these terms. Fails with their first fault.
 #[cycle(pattern)]
 fn read_patterns<A: Allocator + Copy>(
     alloc: A,
@@ -125,7 +125,7 @@ fn read_patterns<A: Allocator + Copy>(
     Ok(patterns)
 }
 
-/// The keys of a map and the patterns of its values.
+/// Returns the keys of a map with the patterns for its values. Fails with their first fault.
 #[cycle(pattern)]
 fn read_fields<A: Allocator + Copy>(
     alloc: A,
@@ -145,7 +145,7 @@ fn read_fields<A: Allocator + Copy>(
     Ok(fields)
 }
 
-/// The head of a clause, which this term is.
+/// Returns the pattern for the whole head of a clause: a variable, `'_'` or a tuple. Fails with its first fault.
 pub fn read_head<A: Allocator + Copy>(
     alloc: A,
     clause: usize,
@@ -155,7 +155,7 @@ pub fn read_head<A: Allocator + Copy>(
     ensures refused { IfErr result (λ f. Refuses f (head_faults clause term.now)) }
 {
     match term.view() {
-        View::Atom(characters) => match Word::new(characters) {
+        View::Atom(text) => match Word::new(text) {
             Word::Variable(number) => Ok(Pattern::new(PatternKind::Variable(number))),
             Word::Underscore => Ok(Pattern::new(PatternKind::Anything)),
             _ => Err(SpecFault::BadHead(clause)),

@@ -13,7 +13,7 @@ use mspec_syntax::{Clause, Spec, SpecFault, Variables};
 use std::alloc::Allocator;
 use term_core::{Term, View};
 
-/// The elements of a tuple of three.
+/// Returns the elements of a tuple of three, or `None` for any other term.
 fn clause_parts<A: Allocator>(term: &Term<A>) -> Option<(&Term<A>, &Term<A>, &Term<A>)>
     ensures found { IfSome result (λ parts. triple parts.0.now parts.1.now parts.2.now ≡ term.now) }
     ensures missing { IfNone result (IsNoTriple term.now) }
@@ -30,7 +30,7 @@ fn clause_parts<A: Allocator>(term: &Term<A>) -> Option<(&Term<A>, &Term<A>, &Te
     }
 }
 
-/// The clause that a term is read as, by its number.
+/// Reads the clause with this number from a term. Fails with the clause's first fault.
 fn read_clause<A: Allocator + Copy>(
     alloc: A,
     number: usize,
@@ -49,7 +49,7 @@ fn read_clause<A: Allocator + Copy>(
     Ok(Clause::new(head, variables, conditions, body))
 }
 
-/// The clauses that these terms are read as.
+/// Reads the clauses from these terms, numbered from 0. Fails with the first fault.
 fn read_clauses<A: Allocator + Copy>(
     alloc: A,
     terms: &[Term<A>],
@@ -65,7 +65,7 @@ fn read_clauses<A: Allocator + Copy>(
     Ok(clauses)
 }
 
-/// The clauses of a specification of any size.
+/// Reads the clauses of a specification of any size. Fails with the first fault.
 fn read_list<A: Allocator + Copy>(alloc: A, term: &Term<A>) -> Result<Vec<Clause<A>, A>, SpecFault>
     ensures ok { IfOk result (λ cs. IsSpecification term.now cs.items) }
     ensures within { IsTerm term.now }
@@ -77,7 +77,7 @@ fn read_list<A: Allocator + Copy>(alloc: A, term: &Term<A>) -> Result<Vec<Clause
     }
 }
 
-/// The specification of these clauses, where it is not too large.
+/// Makes a specification of these clauses. Fails if it has more than `MAX_NODES` nodes or `MAX_VARIABLES` variables.
 fn within_limits<A: Allocator + Copy>(
     alloc: A,
     clauses: Vec<Clause<A>, A>,
@@ -96,16 +96,15 @@ fn within_limits<A: Allocator + Copy>(
     Ok(Spec::new(clauses, variables))
 }
 
-/// The specification that a term is read as. (ERTS User's Guide, "Match Specifications in Erlang",
-/// "Grammar".)
+/// Reads the specification from a term. (ERTS User's Guide, "Match Specifications in Erlang", "Grammar".)
 ///
-/// The first fault in reading order is answered: an outer term's before those inside it, these from
-/// the left, a map's pairs by rising key. Only where there is no other fault is a specification of
-/// more than `MAX_NODES` nodes or `MAX_VARIABLES` distinct variables `TooLarge`.
+/// Fails with the first fault in reading order: an outer term's fault comes before those inside it. These are in order
+/// from the left, and those of a map's pairs in ascending key order. Only if there is no other fault, it fails with
+/// `TooLarge` for more than `MAX_NODES` nodes or `MAX_VARIABLES` distinct variables. Also fails if an allocation fails.
 pub fn read_spec<A: Allocator + Copy>(alloc: A, term: &Term<A>) -> Result<Spec<A>, SpecFault>
     ensures ok { IfOk result (λ s. IsSpecification term.now s × IsWithinLimits s) }
     ensures refused { IfErr result (λ f. IsRefusal f term.now) }
-    // What the grammar allows is read, and as nothing else.
+    // What the grammar allows within the limits is read, and as nothing else.
     ensures only { (s : Specification) → IsSpecification term.now s → IsWithinLimits s
         → MatchResult result (λ r. r ≡ s) (λ f. f ≡ SpecFault.Memory) }
 {

@@ -1,4 +1,4 @@
-//! The sizes of specifications.
+//! The sizes of specifications, counted in nodes.
 ghost use Rattle.mspec_syntax.specs.Pattern.{pattern_nodes, patterns_nodes, fields_nodes, patterns_of, fields_of};
 ghost use Rattle.mspec_syntax.specs.Expression.{expression_nodes, expressions_nodes, assignments_nodes, expressions_of, assignments_of};
 ghost use Rattle.mspec_syntax.specs.Specification.{clause_nodes, specification_nodes, Leaves};
@@ -8,7 +8,7 @@ use mspec_syntax::{Clause, Expression, ExpressionKind, Pattern, PatternKind};
 use std::alloc::Allocator;
 use term_core::Term;
 
-/// What a pattern's nodes leave of some room, none where they are more.
+/// Returns the room left after a pattern's nodes, or `None` if it has more nodes than room.
 #[cycle(size)]
 fn after_pattern<A: Allocator>(room: usize, pattern: &Pattern<A>) -> Option<usize>
     ensures { Leaves result room (pattern_nodes pattern.now) }
@@ -28,7 +28,7 @@ fn after_pattern<A: Allocator>(room: usize, pattern: &Pattern<A>) -> Option<usiz
     }
 }
 
-/// What the nodes of these patterns leave.
+/// Returns the room left after the nodes of these patterns, or `None` if they have more.
 #[cycle(size)]
 fn after_patterns<A: Allocator>(room: usize, patterns: &[Pattern<A>]) -> Option<usize>
     ensures { Leaves result room (patterns_nodes (patterns_of patterns.now)) }
@@ -40,7 +40,7 @@ fn after_patterns<A: Allocator>(room: usize, patterns: &[Pattern<A>]) -> Option<
     Some(left)
 }
 
-/// What these keys and patterns leave.
+/// Returns the room left after the nodes of these keys and patterns, or `None` if they have more.
 #[cycle(size)]
 fn after_fields<A: Allocator>(room: usize, fields: &[(Term<A>, Pattern<A>)]) -> Option<usize>
     ensures { Leaves result room (fields_nodes (fields_of fields.now)) }
@@ -53,7 +53,8 @@ fn after_fields<A: Allocator>(room: usize, fields: &[(Term<A>, Pattern<A>)]) -> 
     Some(left)
 }
 
-/// What an expression's nodes leave, under a head of so many variables.
+/// Returns the room left after an expression's nodes, or `None` if it has more. `variables` is the number of its head's
+/// variables.
 #[cycle(expression)]
 fn after_expression<A: Allocator>(
     room: usize,
@@ -86,7 +87,7 @@ fn after_expression<A: Allocator>(
     }
 }
 
-/// What the nodes of these arguments or elements leave.
+/// Returns the room left after the nodes of these arguments or elements, or `None` if they have more.
 #[cycle(expression)]
 fn after_parts<A: Allocator>(
     room: usize,
@@ -102,7 +103,7 @@ fn after_parts<A: Allocator>(
     Some(left)
 }
 
-/// What these keys and expressions leave.
+/// Returns the room left after the nodes of these keys and expressions, or `None` if they have more.
 #[cycle(expression)]
 fn after_assignments<A: Allocator>(
     room: usize,
@@ -113,13 +114,13 @@ fn after_assignments<A: Allocator>(
 {
     let mut left = room;
     for (_, expression) in assignments {
-        let behind_key = left.checked_sub(1)?;
-        left = after_expression(behind_key, variables, expression)?;
+        let after_key = left.checked_sub(1)?;
+        left = after_expression(after_key, variables, expression)?;
     }
     Some(left)
 }
 
-/// What the nodes of the expressions of a clause leave.
+/// Returns the room left after the nodes of the expressions of a clause, or `None` if they have more.
 fn after_expressions<A: Allocator>(
     room: usize,
     variables: usize,
@@ -134,7 +135,7 @@ fn after_expressions<A: Allocator>(
     Some(left)
 }
 
-/// What a clause's nodes leave.
+/// Returns the room left after a clause's nodes, or `None` if it has more.
 fn after_clause<A: Allocator>(room: usize, clause: &Clause<A>) -> Option<usize>
     ensures { Leaves result room (clause_nodes clause.now) }
 {
@@ -145,7 +146,7 @@ fn after_clause<A: Allocator>(room: usize, clause: &Clause<A>) -> Option<usize>
     after_expressions(room, variables, clause.body())
 }
 
-/// What the nodes of these clauses leave.
+/// Returns the room left after the nodes of these clauses, or `None` if they have more.
 pub(crate) fn after_clauses<A: Allocator>(room: usize, clauses: &[Clause<A>]) -> Option<usize>
     ensures { Leaves result room (specification_nodes clauses.now) }
 {

@@ -1,4 +1,4 @@
--- Expressions read from terms: what is read has no fault, and readings of lists from the readings of their elements.
+-- Expressions read from terms: what is read has no fault, and lists are read by reading their elements.
 use Rattle.std.proofs.Common.{◌≡◌, ℕ, ◌+◌, ◌<◌, ◌≤◌, ◌==◌, ◌&&◌, nat_lt, nat_eq, cond, Bool, true, false, inr, Option, Some, None, Result, IfOk, IfErr, List, [], ◌∷◌, ◌++◌, length, get_or, drop, refl, sym, ◌∙◌, ap, subst, arith}
 use Rattle.std.specs.Prelude.{codes}
 use Rattle.std.specs.Cmp.Lexicographic.{pointwise}
@@ -49,7 +49,7 @@ IsCall-faults i (callee.Function f) P ds e faults none h = absurd h
 IsCall-faults i callee.Unknown P ds e faults none h = absurd h
 
 mutual
-  -- what is read as an expression has no fault
+  -- a term that is read as an expression has no fault
   pub IsExpression-faults : (i : ℕ) (vs : List ℕ) (d : Datum) (e : Expression) → IsExpression vs d e → expression_faults i vs d ≡ []
   IsExpression-faults i vs (integer z) e h = refl
   IsExpression-faults i vs (atom cs) e h = IsAtomExpression-faults i vs cs (word_of cs) e h
@@ -111,7 +111,7 @@ IsCall-one (callee.Function p) P ds e f same h k = absurd h
 IsCall-one callee.Unknown P ds e f same h k = absurd h
 
 mutual
-  -- a term is read as one expression
+  -- a term is read as at most one expression
   pub IsExpression-one : (vs : List ℕ) (d : Datum) (e f : Expression) → IsExpression vs d e → IsExpression vs d f → e ≡ f
   IsExpression-one vs (integer z) e f h k = h ∙ sym k
   IsExpression-one vs (atom cs) e f h k = IsAtomExpression-one vs cs (word_of cs) e f h k
@@ -158,7 +158,7 @@ mutual
       let key : l ≡ m = h.0 ∙ sym i.0 in
       let first = IsExpression-one vs v e f h.1 i.1 in let rest = AreAssignments-one vs es ms ns h.2 i.2 in cc
 
--- expressions in front of others
+-- expressions followed by others
 abbrev pub expressions_before : List Expression → Expressions → Expressions
 expressions_before [] rest = rest
 expressions_before (e ∷ es) rest = expression e (expressions_before es rest)
@@ -200,7 +200,7 @@ PartsFront-refuses clause vs ds i x es f within is front h =
     let known = rw split at front.clean in
     Refuses-same f _ _ known (Refuses-before f (expression_faults clause vs x) (parts_faults clause vs (items_of (drop (i + 1) ds))) h)
 
--- keys and expressions in front of others
+-- keys and expressions followed by others
 abbrev pub assignments_before : List (Datum × Expression) → Assignments → Assignments
 assignments_before [] rest = rest
 assignments_before (m ∷ ms) rest = assignment m.0 m.1 (assignments_before ms rest)
@@ -242,7 +242,7 @@ AssignmentsFront-refuses clause vs es i e ms f within is front h =
     let known = rw split at front.clean in
     Refuses-same f _ _ known (Refuses-before f (expression_faults clause vs e.1) (values_faults clause vs (entries_of (drop (i + 1) es))) h)
 
--- as many expressions as terms
+-- there are as many expressions as terms
 pub AreParts-some : (vs : List ℕ) (ds : List Datum) (es : List Expression) → AreParts vs (items_of ds) (expressions_of es) → 0 < length ds → 0 < length es
 AreParts-some vs [] es h some = absurd (omega arith)
 AreParts-some vs (d ∷ ds) [] h some = absurd h
@@ -295,7 +295,7 @@ IsTupleExpression-no_list vs (item nil ds) e h = absurd h
 IsTupleExpression-no_list vs (item (cons head tail) ds) e h = absurd h
 IsTupleExpression-no_list vs (item (binary bs) ds) e h = absurd h
 
--- what is no list is read as no list
+-- a term that is not a list is read as an expression that is not one
 IsExpression-no_list : (vs : List ℕ) (d : Datum) (e : Expression) → IsNoList d → IsExpression vs d e → IsNoListExpression e
 IsExpression-no_list vs (integer z) e no_list h = subst IsNoListExpression (sym h) tt
 IsExpression-no_list vs (atom cs) e no_list h = IsAtomExpression-no_list vs cs (word_of cs) e h
@@ -306,13 +306,13 @@ IsExpression-no_list vs nil e no_list h = absurd no_list
 IsExpression-no_list vs (cons head tail) e no_list h = absurd no_list
 IsExpression-no_list vs (binary bs) e no_list h = subst IsNoListExpression (sym h) tt
 
--- a list whose tail is []
+-- a list whose tail is [] is read as the list of its elements' expressions
 pub proper-IsExpression : (vs : List ℕ) (ds : List Datum) (t : Option Datum) (d : Datum) (es : List Expression) → t ≡ None → cells ds (tail_of t) ≡ d → AreParts vs (items_of ds) (expressions_of es) → IsExpression vs d (new_cells es (constant nil))
 proper-IsExpression vs ds None d es e is h =
     let P : Datum → Type 0 = λ x. IsExpression vs x (new_cells es (constant nil)) in subst P is (cells-IsExpression vs ds es nil (constant nil) h refl)
 proper-IsExpression vs ds (Some x) d es e is h = absurd (cc)
 
--- a list with another tail
+-- a list with another tail is read as the list of its elements' expressions and its tail's
 pub improper-IsExpression : (vs : List ℕ) (ds : List Datum) (t : Option Datum) (tail d : Datum) (es : List Expression) (f : Expression) → t ≡ Some tail → cells ds (tail_of t) ≡ d → AreParts vs (items_of ds) (expressions_of es) → IsExpression vs tail f → IsExpression vs d (new_cells es f)
 improper-IsExpression vs ds None tail d es f e is h last = absurd (cc)
 improper-IsExpression vs ds (Some x) tail d es f e is h last =
@@ -334,13 +334,13 @@ tail-Refuses clause vs ds (Some x) tail d es f e is read h =
     Refuses-same f _ _ (sym (cells-expression_faults clause vs ds x) ∙ ap (expression_faults clause vs) is)
     (Refuses-behind f (parts_faults clause vs (items_of ds)) (expression_faults clause vs x) (AreParts-faults clause vs (items_of ds) (expressions_of es) read) (subst P same h))
 
--- the tail of a list is read as no list
+-- the tail of a list is read as an expression that is not a list
 pub tail-no_list : (vs : List ℕ) (t : Option Datum) (tail : Datum) (f : Expression) → t ≡ Some tail → IsTail t → IsExpression vs tail f → IsNoListExpression f
 tail-no_list vs None tail f e no_list h = absurd (cc)
 tail-no_list vs (Some x) tail f e no_list h =
     let same : x ≡ tail = cc in IsExpression-no_list vs tail f (subst IsNoList same no_list) h
 
--- const quotes one term
+-- const quotes exactly one term
 pub quotes-one : (cs : List ℕ) (n : ℕ) → callee_of cs n ≡ callee.Quote → n ≡ 1
 quotes-one cs n e = by (n == 1) refl (pointwise nat_eq cs (codes "const")) refl (nat_lt 0 n && pointwise nat_eq cs (codes "andalso")) (nat_lt 0 n && pointwise nat_eq cs (codes "orelse")) e
   where
@@ -360,7 +360,7 @@ first-depth ds d rest e =
     let P : List Datum → Type 0 = λ l. (depth d ≤ items_depth (items_of l)) × (items_depth (items_of rest) ≤ items_depth (items_of l)) in
     subst P (sym e) (omega arith, omega arith)
 
--- a tuple that begins with an atom is the call that it names
+-- a tuple that begins with an atom is read as the call that it names
 pub call-read : (vs : List ℕ) (ds : List Datum) (d : Datum) (rest : List Datum) (cs : List ℕ) (c : Callee) (r : Result Expression SpecFault) → ds ≡ d ∷ rest → atom cs ≡ d → c ≡ callee_of cs (length rest) → IfOk r (λ e. IsCall c (AreParts vs (items_of rest)) (items_of rest) e) → IfOk r (λ e. IsTupleExpression vs (items_of ds) e)
 call-read vs ds d rest cs c r split is named h =
     let P : Callee → Type 0 = λ x. IfOk r (λ e. IsCall x (AreParts vs (items_of rest)) (items_of rest) e) in
@@ -375,7 +375,7 @@ call-refused i vs ds d rest cs c r split is named h =
     let R : List Datum → Type 0 = λ l. IfErr r (λ f. Refuses f (tuple_faults i vs (items_of l))) in
     subst R (sym split) (subst Q is (subst P (named ∙ ap (callee_of cs) (sym (item_count-items_of rest))) h))
 
--- a tuple that begins with a tuple
+-- a tuple that begins with a tuple is read as a tuple to be made
 pub tuple-read : (vs : List ℕ) (ds : List Datum) (d : Datum) (rest parts : List Datum) (r : Result Expression SpecFault) → ds ≡ d ∷ rest → tuple (items_of parts) ≡ d → IfOk r (λ e. IsTupleExpression vs (item (tuple (items_of parts)) (items_of rest)) e) → IfOk r (λ e. IsTupleExpression vs (items_of ds) e)
 tuple-read vs ds d rest parts r split is h =
     let Q : Datum → Type 0 = λ x. IfOk r (λ e. IsTupleExpression vs (item x (items_of rest)) e) in
@@ -388,7 +388,7 @@ tuple-refused i vs ds d rest parts r split is h =
     let R : List Datum → Type 0 = λ l. IfErr r (λ f. Refuses f (tuple_faults i vs (items_of l))) in
     subst R (sym split) (subst Q is h)
 
--- a tuple that begins with a list is no expression
+-- a tuple that begins with a list is not an expression
 pub list-led : (i : ℕ) (vs : List ℕ) (ds : List Datum) (d : Datum) (rest xs : List Datum) (t : Datum) → ds ≡ d ∷ rest → cells xs t ≡ d → 0 < length xs → Refuses (BadExpression i) (tuple_faults i vs (items_of ds))
 list-led i vs ds d rest [] t split is some = absurd (omega arith)
 list-led i vs ds d rest (x ∷ xs) t split is some =
@@ -410,14 +410,14 @@ no_leader i vs nil ds h = refl
 no_leader i vs (cons head tail) ds h = refl
 no_leader i vs (binary bs) ds h = refl
 
--- what is neither an atom nor a tuple begins no expression
+-- a tuple that begins with neither an atom nor a tuple is not an expression
 pub other-led : (i : ℕ) (vs : List ℕ) (ds : List Datum) (d e : Datum) (rest : List Datum) → ds ≡ d ∷ rest → e ≡ d → IsNoLeader e → Refuses (BadExpression i) (tuple_faults i vs (items_of ds))
 other-led i vs ds d e rest split is plain =
     let Q : Datum → Type 0 = λ y. Refuses (BadExpression i) (tuple_faults i vs (item y (items_of rest))) in
     let R : List Datum → Type 0 = λ l. Refuses (BadExpression i) (tuple_faults i vs (items_of l)) in
     subst R (sym split) (subst Q is (inr (record { others = []; first = no_leader i vs e (items_of rest) plain })))
 
--- a tuple that stands alone in a tuple
+-- a tuple that is the only element of a tuple is read as a tuple to be made
 pub alone-read : (vs : List ℕ) (ds : Items) (rest : List Datum) (es : Expressions) (b : Bool) → b ≡ (length rest == 0) → b ≡ true → AreParts vs ds es → IsTupleExpression vs (item (tuple ds) (items_of rest)) (new_tuple es)
 alone-read vs ds [] es b is empty h = h
 alone-read vs ds (x ∷ xs) es b is empty h = absurd (omega (arith, eqb-true (length (x ∷ xs)) 0 (sym is ∙ empty)))
@@ -426,7 +426,7 @@ pub alone-refused : (i : ℕ) (vs : List ℕ) (ds : Items) (rest : List Datum) (
 alone-refused i vs ds [] f b is empty h = h
 alone-refused i vs ds (x ∷ xs) f b is empty h = absurd (omega (arith, eqb-true (length (x ∷ xs)) 0 (sym is ∙ empty)))
 
--- and one that doesn't
+-- a tuple with further elements after it is rejected
 pub crowded-refused : (i : ℕ) (vs : List ℕ) (ds : Items) (rest : List Datum) (b : Bool) → b ≡ (length rest == 0) → b ≡ false → Refuses (BadExpression i) (tuple_faults i vs (item (tuple ds) (items_of rest)))
 crowded-refused i vs ds [] b is some = absurd (cc)
 crowded-refused i vs ds (x ∷ xs) b is some = inr (record { others = []; first = refl })
@@ -435,7 +435,7 @@ below-next : (k : Datum) (es : Entries) → IsBelowFirst k es → IsBelowNext k 
 below-next k no_entries below = tt
 below-next k (entry l v es) below = below
 
--- the keys of a map rise
+-- the keys of a map are in ascending order
 pub entry_keys-rise : (es : Entries) → ArePairsSound es → AreKeysRising (entry_keys es)
 entry_keys-rise no_entries sound = tt
 entry_keys-rise (entry k v es) sound = (below-next k es sound.2, entry_keys-rise es sound.3)
@@ -449,7 +449,7 @@ assignment_keys-same vs (entry k v es) no_assignments h = absurd h
 assignment_keys-same vs (entry k v es) (assignment l e ms) h =
     let rest = assignment_keys-same vs es ms h.2 in let first = h.0 in cc
 
--- so that they rise
+-- the keys of a map that is read are in ascending order
 pub keys-rising : (vs : List ℕ) (es : Entries) (ms : Assignments) (d : Datum) → map es ≡ d → IsTerm d
     → AreAssignments vs es ms → AreKeysRising (assignment_keys ms)
 keys-rising vs es ms d is term h =

@@ -1,4 +1,4 @@
--- How many arguments an expression has, and how large they are.
+-- The number of an expression's arguments, and their sizes.
 use Rattle.std.proofs.Common.{◌≡◌, ℕ, zero, suc, ◌+◌, ◌<◌, ◌≤◌, List, [], ◌∷◌, length, get_or, refl, ap, arith}
 use Rattle.term_core.specs.Datum.{Datum}
 use Rattle.mspec_syntax.specs.Expression.{Expression, expressions_of, assignments_of, new_cells, expression_count, expression_size, expressions_size, assignments_size}
@@ -9,7 +9,7 @@ size-get [] i e h = absurd (omega arith)
 size-get (x ∷ es) zero e h = omega arith
 size-get (x ∷ es) (suc i) e h = omega (arith, size-get es i e (omega arith))
 
--- an argument is smaller than the arguments, and by as many as stand before it
+-- an argument is smaller than all arguments, by at least the number of those before it
 pub size-at : (es : List Expression) (i : ℕ) (e : Expression) → i < length es → e ≡ get_or es i e → i + expression_size e < expressions_size (expressions_of es)
 size-at es i e h is = omega (arith, size-get es i e h, ap expression_size is)
 
@@ -33,7 +33,7 @@ pub length-assignments : (ms : List (Datum × Expression)) → length ms ≤ ass
 length-assignments [] = omega arith
 length-assignments (m ∷ ms) = omega (arith, length-assignments ms)
 
--- the size of a list
+-- the size of a list is that of its elements and its tail
 pub new_cells-size : (es : List Expression) (t : Expression) → expression_size (new_cells es t) ≡ expressions_size (expressions_of es) + expression_size t
 new_cells-size [] t = omega arith
 new_cells-size (e ∷ es) t = omega (arith, new_cells-size es t)

@@ -6,3 +6,5 @@ pub mod ExpressionSizes
 pub mod SizeLemmas
 pub mod SoundLemmas
 pub mod RankLemmas
+mod NameLemmas
+mod PlainLemmas

@@ -1,4 +1,4 @@
--- Patterns read from terms: what is read has no fault, and readings of lists from the readings of their elements.
+-- Patterns read from terms: what is read has no fault, and lists are read by reading their elements.
 use Rattle.std.proofs.Common.{◌≡◌, ℕ, suc, ◌+◌, ◌<◌, ◌≤◌, inl, inr, Option, Some, None, List, [], ◌∷◌, ◌++◌, length, get_or, drop, refl, sym, ◌∙◌, ap, subst, arith, drop-cons, add-one}
 use Rattle.std.proofs.lemmas.List.{append_assoc, drop_all}
 use Rattle.term_core.specs.Datum.{Datum, Items, Entries, items_of, entries_of, cells, IsNoList}
@@ -33,7 +33,7 @@ IsKey-faults : (i : ℕ) (k : Datum) → IsKey k → key_faults i k ≡ []
 IsKey-faults i k h = both_empty (ap (λ b. fault_if b (VariableInMapKey i)) h.whole) (ap (λ b. fault_if b (BadVariableName i)) h.numbered)
 
 mutual
-  -- what is read as a pattern has no fault
+  -- a term that is read as a pattern has no fault
   pub IsPattern-faults : (i : ℕ) (d : Datum) (p : Pattern) → IsPattern d p → pattern_faults i d ≡ []
   IsPattern-faults i (integer z) p h = refl
   IsPattern-faults i (atom cs) p h = IsAtomPattern-faults i cs (word_of cs) p h
@@ -103,7 +103,7 @@ IsAtomPattern-one cs word.Bindings p q h k = h ∙ sym k
 IsAtomPattern-one cs word.Plain p q h k = h ∙ sym k
 
 mutual
-  -- a term is read as one pattern
+  -- a term is read as at most one pattern
   pub IsPattern-one : (d : Datum) (p q : Pattern) → IsPattern d p → IsPattern d q → p ≡ q
   IsPattern-one (integer z) p q h k = h ∙ sym k
   IsPattern-one (atom cs) p q h k = IsAtomPattern-one cs (word_of cs) p q h k
@@ -139,7 +139,7 @@ mutual
       let key : l ≡ m = h.1 ∙ sym i.1 in
       let first = IsPattern-one v p q h.2 i.2 in let rest = AreFields-one es fs gs h.3 i.3 in cc
 
--- a refusal stands first before further faults, and behind none
+-- the first fault stays first if more faults follow it, or none are before it
 pub Refuses-before : (f : SpecFault) (faults more : List SpecFault) → Refuses f faults → Refuses f (faults ++ more)
 Refuses-before f faults more (inl h) = inl h
 Refuses-before f faults more (inr h) = inr (record { others = h.others ++ more; first = ap (λ l. l ++ more) h.first })
@@ -150,7 +150,7 @@ Refuses-behind f faults more e h = let P : List SpecFault → Type 0 = λ l. Ref
 pub Refuses-same : (f : SpecFault) (faults others : List SpecFault) → faults ≡ others → Refuses f faults → Refuses f others
 Refuses-same f faults others e h = let P : List SpecFault → Type 0 = λ l. Refuses f l in subst P e h
 
--- patterns in front of others
+-- patterns followed by others
 abbrev pub patterns_before : List Pattern → Patterns → Patterns
 patterns_before [] rest = rest
 patterns_before (p ∷ ps) rest = pattern p (patterns_before ps rest)
@@ -195,7 +195,7 @@ ReadsFront-refuses clause ds i x ps f within is front h =
     let known = rw split at front.clean in
     Refuses-same f _ _ known (Refuses-before f (pattern_faults clause x) (items_faults clause (items_of (drop (i + 1) ds))) h)
 
--- keys and patterns in front of others
+-- keys and patterns followed by others
 abbrev pub fields_before : List (Datum × Pattern) → Fields → Fields
 fields_before [] rest = rest
 fields_before (f ∷ fs) rest = field f.0 f.1 (fields_before fs rest)
@@ -247,7 +247,7 @@ FieldsFront-refuses_value clause es i e fs f within is front key h =
     (Refuses-behind f (key_faults clause e.0) (pattern_faults clause e.1 ++ rest) (IsKey-faults clause e.0 key)
     (Refuses-before f (pattern_faults clause e.1) rest h))
 
--- as many patterns as terms
+-- there are as many patterns as terms
 ArePatterns-some : (ds : List Datum) (ps : List Pattern) → ArePatterns (items_of ds) (patterns_of ps) → 0 < length ds → 0 < length ps
 ArePatterns-some [] ps h some = absurd (omega arith)
 ArePatterns-some (d ∷ ds) [] h some = absurd h
@@ -275,7 +275,7 @@ IsAtomPattern-no_list cs word.Object p h = subst IsNoListPattern (sym h) tt
 IsAtomPattern-no_list cs word.Bindings p h = subst IsNoListPattern (sym h) tt
 IsAtomPattern-no_list cs word.Plain p h = subst IsNoListPattern (sym h) tt
 
--- what is no list is read as no list
+-- a term that is not a list is read as a pattern that is not one
 pub IsPattern-no_list : (d : Datum) (p : Pattern) → IsNoList d → IsPattern d p → IsNoListPattern p
 IsPattern-no_list (integer z) p no_list h = subst IsNoListPattern (sym h) tt
 IsPattern-no_list (atom cs) p no_list h = IsAtomPattern-no_list cs (word_of cs) p h
@@ -287,13 +287,13 @@ IsPattern-no_list nil p no_list h = absurd no_list
 IsPattern-no_list (cons head tail) p no_list h = absurd no_list
 IsPattern-no_list (binary bs) p no_list h = subst IsNoListPattern (sym h) tt
 
--- a list whose tail is []
+-- a list whose tail is [] is read as the list of its elements' patterns
 pub proper-IsPattern : (ds : List Datum) (t : Option Datum) (d : Datum) (ps : List Pattern) → t ≡ None → cells ds (tail_of t) ≡ d → ArePatterns (items_of ds) (patterns_of ps) → IsPattern d (cells_of ps (literal nil))
 proper-IsPattern ds None d ps e is h =
     let P : Datum → Type 0 = λ x. IsPattern x (cells_of ps (literal nil)) in subst P is (cells-IsPattern ds ps nil (literal nil) h refl)
 proper-IsPattern ds (Some x) d ps e is h = absurd (cc)
 
--- a list with another tail
+-- a list with another tail is read as the list of its elements' patterns and its tail's
 pub improper-IsPattern : (ds : List Datum) (t : Option Datum) (tail d : Datum) (ps : List Pattern) (q : Pattern) → t ≡ Some tail → cells ds (tail_of t) ≡ d → ArePatterns (items_of ds) (patterns_of ps) → IsPattern tail q → IsPattern d (cells_of ps q)
 improper-IsPattern ds None tail d ps q e is h last = absurd (cc)
 improper-IsPattern ds (Some x) tail d ps q e is h last =
@@ -318,13 +318,13 @@ tail-Refuses clause ds (Some x) tail d ps f e is read h =
 pub elements-some : (ds : List Datum) (ps : List Pattern) → ArePatterns (items_of ds) (patterns_of ps) → 0 < length ds → 0 < length ps
 elements-some ds ps h some = ArePatterns-some ds ps h some
 
--- the tail of a list is read as no list
+-- the tail of a list is read as a pattern that is not a list
 pub tail-no_list : (t : Option Datum) (tail : Datum) (q : Pattern) → t ≡ Some tail → IsTail t → IsPattern tail q → IsNoListPattern q
 tail-no_list None tail q e no_list h = absurd (cc)
 tail-no_list (Some x) tail q e no_list h =
     let same : x ≡ tail = cc in IsPattern-no_list tail q (subst IsNoList same no_list) h
 
--- a list is no head
+-- a list is not a head
 pub list-head : (clause : ℕ) (ds : List Datum) (t d : Datum) → cells ds t ≡ d → 0 < length ds → Refuses (BadHead clause) (head_faults clause d)
 list-head clause [] t d is some = absurd (omega arith)
 list-head clause (x ∷ ds) t d is some =

@@ -1,4 +1,4 @@
--- How many of the variables stand before one.
+-- The number of variables before one.
 use Rattle.std.proofs.Common.{◌≡◌, ℕ, zero, suc, ◌<◌, ◌==◌, ◌||◌, Bool, true, false, inl, inr, Some, List, [], ◌∷◌, length, slice_get, refl, sym, ◌∙◌, ap, arith}
 use Rattle.std.proofs.lemmas.Bool.{cases_eq, eq-eqb, ne_eqb}
 use Rattle.mspec_syntax.specs.Grammar.{is_among}
@@ -13,11 +13,11 @@ rank-place (v ∷ vs) (suc i) n h e =
     let below = Rises-below v vs i n h e in
     rw (ne_eqb v n (λ z. absurd (omega arith))) (ap suc (rank-place vs i n (Rises-tail v vs h) e))
 
--- the place where a variable was found
+-- the place where a variable was found is its rank
 pub rank-found : (vs : List ℕ) (i n : ℕ) → vs ≡ rising vs → slice_get vs i ≡ Some n → i ≡ rank_of vs n
 rank-found vs i n kept e = rank-place vs i n (Rises-itself vs kept) e
 
--- all stand before one that is missing
+-- the rank of a variable that is missing is the number of all variables
 pub rank-missing : (vs : List ℕ) (n : ℕ) → is_among vs n ≡ false → length vs ≡ rank_of vs n
 rank-missing [] n h = refl
 rank-missing (v ∷ vs) n h =
@@ -29,7 +29,7 @@ rank-missing (v ∷ vs) n h =
           rw other (ap suc (rank-missing vs n rest))
     ]
 
--- the slot of a variable that has one
+-- the rank of a variable that is among these is below their number
 pub rank-below : (vs : List ℕ) (n : ℕ) → is_among vs n ≡ true → rank_of vs n < length vs
 rank-below [] n h = absurd (cc)
 rank-below (v ∷ vs) n h =

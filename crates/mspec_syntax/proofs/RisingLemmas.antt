@@ -1,4 +1,4 @@
--- The rising list of some numbers is the one list that rises and has these numbers.
+-- The ascending list of some numbers is the only one that is ascending and has these numbers.
 use Rattle.std.proofs.Common.{◌≡◌, ℕ, zero, suc, ◌+◌, ◌<◌, ◌≤◌, ◌==◌, Bool, true, false, ◌||◌, inl, inr, List, [], ◌∷◌, length, get_or, Err, Option, Some, None, IfSome, IfNone, is_some, slice_get, refl, sym, ◌∙◌, ap, subst, arith, eqb}
 use Rattle.std.specs.List.{dedup, dedup_from}
 use Rattle.std.specs.List.Sorted.{IsSorted, IsStrictlyIncreasing, IsPermutation, IsBinarySearchResult}
@@ -19,7 +19,7 @@ pub Rises-tail : (x : ℕ) (xs : List ℕ) → Rises (x ∷ xs) → Rises xs
 Rises-tail x [] h = tt
 Rises-tail x (y ∷ ys) h = h.1
 
--- a number below all isn't there
+-- a number below the first of an ascending list is not in it
 not_among : (n x : ℕ) (xs : List ℕ) → n < x → Rises (x ∷ xs) → is_among (x ∷ xs) n ≡ false
 not_among n x [] below h = rw (ne_eqb x n (λ e. absurd (omega arith))) refl
 not_among n x (y ∷ ys) below h = rw (ne_eqb x n (λ e. absurd (omega arith))) (not_among n y ys (omega arith) h.1)
@@ -31,7 +31,7 @@ behind n x (y ∷ ys) e h = not_among n y ys (omega arith) h.1
 among_first : (x : ℕ) (xs : List ℕ) → is_among (x ∷ xs) x ≡ true
 among_first x xs = rw (eq-eqb x x refl) refl
 
--- two rising lists with the same numbers are one
+-- two ascending lists with the same numbers are equal
 pub Rises-one : (xs ys : List ℕ) → Rises xs → Rises ys → ((n : ℕ) → is_among xs n ≡ is_among ys n) → xs ≡ ys
 Rises-one [] [] h k same = refl
 Rises-one [] (y ∷ ys) h k same = absurd (let e = same y ∙ among_first y ys in cc)
@@ -63,7 +63,7 @@ insert_rising-same n m ms h = rw (le-ltb n m (omega arith), eq-eqb n m h) refl
 insert_rising-more : (n m : ℕ) (ms : List ℕ) → m < n → insert_rising n (m ∷ ms) ≡ m ∷ insert_rising n ms
 insert_rising-more n m ms h = rw (le-ltb n m (omega arith), ne_eqb n m (λ e. absurd (omega arith))) refl
 
--- a first number stays first before those that are put in behind it
+-- the first number stays first if a greater one is inserted after it
 Rises-insert_behind : (n m : ℕ) (ms : List ℕ) → m < n → Rises (m ∷ ms) → Rises (insert_rising n ms) → Rises (m ∷ insert_rising n ms)
 Rises-insert_behind n m [] h k done = (h, tt)
 Rises-insert_behind n m (l ∷ ls) h k done =
@@ -108,7 +108,7 @@ among-insert n (m ∷ ms) q =
           rw (insert_rising-more n m ms above) (ap (λ b. (m == q) || b) (among-insert n ms q) ∙ or_swap (m == q) (n == q) (is_among ms q))
     ]
 
--- it has the numbers of the list
+-- the ascending list has the numbers of the original list
 pub among-rising : (ns : List ℕ) (q : ℕ) → is_among (rising ns) q ≡ is_among ns q
 among-rising [] q = refl
 among-rising (n ∷ ns) q = among-insert n (rising ns) q ∙ ap (λ b. (n == q) || b) (among-rising ns q)
@@ -136,13 +136,13 @@ Rises-from_increasing (x ∷ y ∷ ys) h = (
       rw next at place),
 )
 
--- a sort and a removal of repetitions make the rising list
+-- sorting and removing duplicates gives the ascending list
 pub rising-sorted : (ns sorted left : List ℕ) → IsPermutation ns sorted → IsSorted nat_cmp sorted → left ≡ dedup eqb sorted → left ≡ rising ns
 rising-sorted ns sorted left moved order e =
     Rises-one left (rising ns) (subst Rises (sym e) (Rises-from_increasing (dedup eqb sorted) (IsStrictlyIncreasing-dedup sorted order))) (Rises-rising ns)
     (λ q. ap (λ l. is_among l q) e ∙ among-dedup sorted q ∙ sym (list_any-IsPermutation (λ m. m == q) ns sorted moved) ∙ sym (among-rising ns q))
 
--- the places of a rising list do not fall
+-- numbers at later places of an ascending list are not smaller
 pub Rises-places : (xs : List ℕ) → Rises xs → (i j : ℕ) → i ≤ j → j < length xs → get_or xs i 0 ≤ get_or xs j 0
 Rises-places [] h i j le below = absurd (omega arith)
 Rises-places (x ∷ xs) h zero zero le below = omega arith
@@ -156,14 +156,14 @@ or_true : (b : Bool) → (b || true) ≡ true
 or_true true = refl
 or_true false = refl
 
--- what a search in a rising list finds is there
+-- what a search in a list finds is in it
 pub among-place : (xs : List ℕ) (i n : ℕ) → i < length xs → get_or xs i 0 ≡ n → is_among xs n ≡ true
 among-place [] i n below e = absurd (omega arith)
 among-place (x ∷ xs) zero n below e = rw (eq-eqb x n e) refl
 among-place (x ∷ xs) (suc i) n below e =
     ap (λ b. (x == n) || b) (among-place xs i n (omega arith) e) ∙ or_true (x == n)
 
--- and what it passes on both sides isn't
+-- a number above all before a place and below all from there on is not in the list
 pub among-gap : (xs : List ℕ) (i n : ℕ) → ((k : ℕ) → k < i → get_or xs k 0 < n) → ((k : ℕ) → i ≤ k → k < length xs → n < get_or xs k 0) → is_among xs n ≡ false
 among-gap [] i n before after = refl
 among-gap (x ∷ xs) zero n before after =
@@ -173,7 +173,7 @@ among-gap (x ∷ xs) (suc i) n before after =
     rw (ne_eqb x n (λ e. absurd (omega (arith, before 0 (omega arith)))))
     (among-gap xs i n (λ k h. before (suc k) (omega arith)) (λ k le h. after (suc k) (omega arith) (omega arith)))
 
--- a rising list is its own
+-- the ascending list of an ascending list is itself
 pub rising-itself : (ns left : List ℕ) → left ≡ rising ns → left ≡ rising left
 rising-itself ns left e =
     Rises-one left (rising left) (subst Rises (sym e) (Rises-rising ns)) (Rises-rising left) (λ q. sym (among-rising left q))
@@ -181,18 +181,18 @@ rising-itself ns left e =
 pub Rises-itself : (ns : List ℕ) → ns ≡ rising ns → Rises ns
 Rises-itself ns e = subst Rises (sym e) (Rises-rising ns)
 
--- what a search answers where it finds nothing
+-- a number that a search does not find is not in the list
 pub among-missed : (xs : List ℕ) (n i : ℕ) → xs ≡ rising xs → IsBinarySearchResult (λ y. nat_cmp y n) xs (Err i) → is_among xs n ≡ false
 among-missed xs n i kept h =
     let s = searched xs n (Err i) h (Rises-places xs (Rises-itself xs kept)) in
     among-gap xs i n s.1 s.2
 
--- a number that has a place is there, and one that has none isn't
+-- a number is in the list exactly if the search returned a place
 pub among-rank : (xs : List ℕ) (n : ℕ) (r : Option ℕ) → IfSome r (λ i. slice_get xs i ≡ Some n) → IfNone r (is_among xs n ≡ false) → is_some r ≡ is_among xs n
 among-rank xs n None found missed = sym missed
 among-rank xs n (Some i) found missed = sym (any_passes_from_place (λ m. m == n) xs i n found (eq-eqb n n refl))
 
--- a first number is below those behind it
+-- the first number of an ascending list is below those after it
 pub Rises-below : (x : ℕ) (xs : List ℕ) (i n : ℕ) → Rises (x ∷ xs) → slice_get xs i ≡ Some n → x < n
 Rises-below x [] i n h e = absurd (cc)
 Rises-below x (y ∷ ys) zero n h e = let same : y ≡ n = cc in omega (arith, h.0)

@@ -1,4 +1,4 @@
--- Parts of patterns and expressions are smaller, and what a list of cells sums up to.
+-- Parts of patterns and expressions are smaller than the whole, and the sums over the cells of a list.
 use Rattle.std.proofs.Common.{◌≡◌, ℕ, zero, suc, ◌+◌, ◌<◌, ◌≤◌, Option, Some, None, Box, List, [], ◌∷◌, ◌++◌, length, get_or, drop, refl, sym, ◌∙◌, ap, subst, arith, drop-cons, add-one}
 use Rattle.std.proofs.lemmas.List.{append_assoc}
 use Rattle.std.proofs.lemmas.List.Sums.{sum_by-cons}
@@ -19,7 +19,7 @@ patterns_size-get [] i p h = absurd (omega arith)
 patterns_size-get (x ∷ xs) zero p h = omega arith
 patterns_size-get (x ∷ xs) (suc i) p h = omega (arith, patterns_size-get xs i p (omega arith))
 
--- an element is at most as large as the elements
+-- an element is at most as large as all elements
 pub patterns_size-at : (ps : List Pattern) (i : ℕ) (p : Pattern) → i < length ps → p ≡ get_or ps i p → pattern_size p ≤ patterns_size (patterns_of ps)
 patterns_size-at ps i p h e = omega (arith, patterns_size-get ps i p h, ap pattern_size e)
 
@@ -43,7 +43,7 @@ pub patterns_size-some : (ps : List Pattern) → 0 < length ps → 0 < patterns_
 patterns_size-some [] h = absurd (omega arith)
 patterns_size-some (p ∷ ps) h = omega arith
 
--- the size of a list
+-- the size of a list is that of its elements and its tail
 pub cells-size : (ps : List Pattern) (q : Pattern) → pattern_size (cells_of ps q) ≡ patterns_size (patterns_of ps) + pattern_size q
 cells-size [] q = omega arith
 cells-size (p ∷ ps) q = omega (arith, cells-size ps q)
@@ -61,7 +61,7 @@ cells-variables [] q = refl
 cells-variables (p ∷ ps) q =
     ap (λ l. pattern_variables p ++ l) (cells-variables ps q) ∙ sym (append_assoc (pattern_variables p) (patterns_variables (patterns_of ps)) (pattern_variables q))
 
--- what the elements add, and then the tail, is what the list adds
+-- appending the variables of the elements, and then of the tail, appends those of the list
 pub collected : (ps xs : List Pattern) (q p : Pattern) (old mid new : List ℕ) → cells_of ps q ≡ p → xs ≡ ps → mid ≡ old ++ patterns_variables (patterns_of xs) → new ≡ mid ++ pattern_variables q → new ≡ old ++ pattern_variables p
 collected ps xs q p old mid new is same elements last =
     last ∙ ap (λ l. l ++ pattern_variables q) elements
@@ -78,7 +78,7 @@ pattern_nodes-some (tuple_of ps) = omega arith
 pattern_nodes-some (cell_of p q) = omega arith
 pattern_nodes-some (map_of fs) = omega arith
 
--- no room for one node is none for a pattern
+-- without room for one node there is none for a pattern
 pub no_room : (room : ℕ) (p : Pattern) → (1 ≤ room → ⊥) → room < pattern_nodes p
 no_room zero p h = pattern_nodes-some p
 no_room (suc room) p h = absurd (h (omega arith))
@@ -101,7 +101,7 @@ cells-tail_nodes : (ps : List Pattern) (q : Pattern) → tail_nodes (cells_of ps
 cells-tail_nodes [] q = omega arith
 cells-tail_nodes (p ∷ ps) q = omega (arith, cells-tail_nodes ps q)
 
--- a list counts one, its elements, and its tail where that is no list
+-- a list has one node, those of its elements, and those of its tail if that is not []
 pub cells-nodes : (ps xs : List Pattern) (q p : Pattern) → cells_of ps q ≡ p → 0 < length ps → xs ≡ ps → pattern_nodes p ≡ suc (patterns_nodes (patterns_of xs) + tail_nodes q)
 cells-nodes [] xs q p is some same = absurd (omega arith)
 cells-nodes (x ∷ ps) xs q p is some same =
@@ -113,7 +113,7 @@ tail-nodes {A} t b q e same h =
     let no_list : IsNoListPattern b.value = subst P e h in
     ap (λ x. tail_nodes (tail_pattern x)) e ∙ tail_nodes-no_list b.value no_list ∙ ap pattern_nodes (sym same)
 
--- what is left of less room for less
+-- nodes leave of some room what more nodes leave of that much more room
 pub Leaves-more : (left : Option ℕ) (room nodes more whole total : ℕ) → room + more ≡ whole → total ≡ nodes + more → Leaves left room nodes → Leaves left whole total
 Leaves-more None room nodes more whole total e f h = omega arith
 Leaves-more (Some rest) room nodes more whole total e f h = omega arith
@@ -126,7 +126,7 @@ specification_nodes-step cs i c h e = ap specification_nodes (clauses-split cs i
 
 -- ---- expressions
 
--- a list is larger than its elements and its tail
+-- a list expression is larger than its elements and its tail
 pub new_cells-fall : (es : List Expression) (f e : Expression) → new_cells es f ≡ e → 0 < length es → (expressions_size (expressions_of es) < expression_size e) × (expression_size f < expression_size e)
 new_cells-fall [] f e is some = absurd (omega arith)
 new_cells-fall (x ∷ es) f e is some =
@@ -146,7 +146,7 @@ expression_nodes-some variables (new_tuple es) = omega arith
 expression_nodes-some variables (new_cell e f) = omega arith
 expression_nodes-some variables (new_map ms) = omega arith
 
--- no room for one node is none for an expression
+-- without room for one node there is none for an expression
 pub no_room_expression : (variables room : ℕ) (e : Expression) → (1 ≤ room → ⊥) → room < expression_nodes variables e
 no_room_expression variables zero e h = expression_nodes-some variables e
 no_room_expression variables (suc room) e h = absurd (h (omega arith))
@@ -177,7 +177,7 @@ new_cells-rest_nodes : (variables : ℕ) (es : List Expression) (f : Expression)
 new_cells-rest_nodes variables [] f = omega arith
 new_cells-rest_nodes variables (e ∷ es) f = omega (arith, new_cells-rest_nodes variables es f)
 
--- a list counts one, its elements, and its tail where that is no list
+-- a list expression has one node, those of its elements, and those of its tail if that is not []
 pub new_cells-nodes : (variables : ℕ) (es xs : List Expression) (f e : Expression) → new_cells es f ≡ e → 0 < length es → xs ≡ es → expression_nodes variables e ≡ suc (expressions_nodes variables (expressions_of xs) + rest_nodes variables f)
 new_cells-nodes variables [] xs f e is some same = absurd (omega arith)
 new_cells-nodes variables (x ∷ es) xs f e is some same =

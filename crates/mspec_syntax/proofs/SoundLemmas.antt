@@ -1,4 +1,4 @@
--- What was read of a term is sound.
+-- What was read from a term is sound.
 use Rattle.std.proofs.Common.{◌≡◌, ℕ, suc, ◌<◌, ◌≤◌, ◌==◌, ◌&&◌, max, nat_lt, nat_eq, cond, Bool, true, false, Option, Some, None, option_map, IfSome, List, [], ◌∷◌, length, refl, sym, ◌∙◌, ap, subst, arith}
 use Rattle.std.specs.Prelude.{codes}
 use Rattle.std.specs.List.{All}
@@ -64,7 +64,7 @@ ArePairsTerms-shallow (entry k v es) sound shallow = (
 map-parts : (es : Entries) → IsTerm (map es) → ArePairsTerms es
 map-parts es term = ArePairsTerms-shallow es term.sound.1 (omega (arith, term.shallow))
 
--- a head and a tail are terms
+-- a term is at most one deeper than its tail depth
 depth-tail : (d : Datum) → depth d ≤ suc (tail_depth d)
 depth-tail (integer z) = omega arith
 depth-tail (atom cs) = omega arith
@@ -81,7 +81,7 @@ tail-term : (head tail : Datum) → IsTerm (cons head tail) → IsTerm tail
 tail-term head tail term =
     record { sound = term.sound.2; shallow = omega (arith, term.shallow, depth-tail tail) }
 
--- the list of a map's keys is a term
+-- the list of a map's keys has as many elements as the map has pairs
 keys-count : (es : Entries) → cell_count (cells (entry_keys es) nil) ≡ entry_count es
 keys-count no_entries = refl
 keys-count (entry k v es) = ap suc (keys-count es)
@@ -110,7 +110,7 @@ AreSoundKeys-same : (es : Entries) (keys : List Datum) → IsTerm (map es) → e
 AreSoundKeys-same es keys term same =
     subst AreSoundKeys same (record { rising = entry_keys-rise es term.sound.1; listed = keys-term es term })
 
--- what a pattern spells is the term that it was read of
+-- a cell of two patterns that spell terms spells the cell of these terms
 own_cell-is : (a b : Option Datum) (x y : Datum) → IfSome a (λ e. e ≡ x) → IfSome b (λ e. e ≡ y)
     → IfSome (own_cell a b) (λ e. e ≡ cons x y)
 own_cell-is None None x y h k = tt
@@ -229,7 +229,7 @@ mutual
     AreSoundFields-read es fs terms.2 h.3,
   )
 
--- what a callee says of the number of its arguments
+-- what a callee says about the number of its arguments
 abbrev Takes : Callee → ℕ → Type 0
 Takes callee.AndAlso n = 0 < n
 Takes callee.OrElse n = 0 < n
@@ -440,6 +440,6 @@ AllSound-elements : (o : Option (List Datum)) (s : Specification) → IfSome o (
 AllSound-elements None s terms h = absurd h
 AllSound-elements (Some ds) s terms h = AllSound-clauses ds s terms h
 
--- each clause of what was read of a term is sound
+-- each clause of what was read from a term is sound
 pub clauses-sound : (s : Specification) → IsReadable s → All IsSoundClause s
 clauses-sound s h = AllSound-elements (proper_elements h.term) s (elements-terms h.term h.within) h.is

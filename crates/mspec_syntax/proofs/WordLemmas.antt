@@ -8,7 +8,7 @@ use Rattle.std.proofs.lemmas.Int.Digits.{digits_value-lt}
 use Rattle.std.proofs.lemmas.Bool.Decides.{nat_tests}
 use Rattle.std.proofs.Math.Nat.{pow-le-pow_right}
 
--- a number grows with its digits
+-- a number does not shrink with more digits
 digits_value_after-ge : (n : ℕ) (ds : List ℕ) → n ≤ digits_value_after 10 n ds
 digits_value_after-ge n [] = omega arith
 digits_value_after-ge n (d ∷ ds) = omega (arith, digits_value_after-ge (n * 10 + digit_value d) ds)
@@ -17,7 +17,7 @@ and_parts : (a b : Bool) → (a && b) ≡ true → (a ≡ true) × (b ≡ true)
 and_parts true b h = (refl, h)
 and_parts false b h = cc
 
--- a digit and its value
+-- the code of a digit is from 48 to 57
 digit_range : (d : ℕ) → is_ascii_digit d ≡ true → (48 ≤ d) × (d ≤ 57)
 digit_range d h = (grind (arith, nat_tests), grind (arith, nat_tests))
 
@@ -31,17 +31,18 @@ all_digits (d ∷ ds) h =
     let r = digit_range d p.0 in
     (omega (arith, digit_value-is d p.0), all_digits ds p.1)
 
--- numbers of at most eight digits
+-- a number of at most eight digits is below 100,000,000
 digits_value-fits : (ds : List ℕ) → list_all is_ascii_digit ds ≡ true → length ds ≤ 8 → digits_value 10 ds < 100000000
 digits_value-fits ds h short =
     let bound : 10 ^ length ds ≤ 10 ^ 8 = pow-le-pow_right {n = 10} (lit< tt) short in
     omega (arith, bound, digits_value-lt 10 ds (all_digits ds h))
 
--- what the next digit makes is at most the whole
-pub next-fits : (n i x : ℕ) (ds : List ℕ) → i < length ds → x ≡ get_or ds i x → digits_value_after 10 n (drop i ds) ≡ digits_value 10 ds → list_all is_ascii_digit (drop i ds) ≡ true → list_all is_ascii_digit ds ≡ true → length ds ≤ 8 → n * 10 + (x - 48) < 100000000
-next-fits n i x ds within is value left all short =
-    let split : drop i ds ≡ x ∷ drop (suc i) ds = drop-cons ds i x within ∙ ap (λ y. y ∷ drop (suc i) ds) (sym is) in
+-- the next digit, and that the number after it is at most the whole number
+pub next-fits : (n i : ℕ) (ds : List ℕ) → i < length ds → digits_value_after 10 n (drop i ds) ≡ digits_value 10 ds → list_all is_ascii_digit (drop i ds) ≡ true → list_all is_ascii_digit ds ≡ true → length ds ≤ 8 → (48 ≤ get_or ds i 0) × (n * 10 + (get_or ds i 0 - 48) < 100000000)
+next-fits n i ds within value left all short =
+    let split : drop i ds ≡ get_or ds i 0 ∷ drop (suc i) ds = drop-cons ds i 0 within in
     let digits = rw split at left in
     let whole = rw split at value in
-    let p = and_parts (is_ascii_digit x) (list_all is_ascii_digit (drop (suc i) ds)) digits in
-    omega (arith, digit_value-is x p.0, digits_value_after-ge (n * 10 + digit_value x) (drop (suc i) ds), digits_value-fits ds all short)
+    let p = and_parts (is_ascii_digit (get_or ds i 0)) (list_all is_ascii_digit (drop (suc i) ds)) digits in
+    let d = digit_value-is (get_or ds i 0) p.0 in
+    (omega (arith, d), omega (arith, d, digits_value_after-ge (n * 10 + digit_value (get_or ds i 0)) (drop (suc i) ds), digits_value-fits ds all short))

@@ -1,4 +1,4 @@
--- What an atom at the front of a tuple says, by how many terms stand behind it. (ERTS User's Guide, "Match
+-- What an atom at the beginning of a tuple means, depending on the number of terms after it. (ERTS User's Guide, "Match
 -- Specifications in Erlang", "Grammar": BoolFunction, GuardFunction, and const.)
 use Rattle.std.specs.Prelude.{ℕ, ◌==◌, nat_eq, nat_lt, ◌&&◌, if◌then◌else◌, List, Option, Some, None, codes}
 use Rattle.std.specs.Cmp.Lexicographic.{pointwise}
@@ -7,7 +7,7 @@ use Rattle.prims_table.specs.declared.prim.Primitive.{Primitive}
 use Rattle.mspec_syntax.specs.declared.word.Callee.{Callee}
 use Rattle.mspec_syntax.specs.declared.word.Callee.TheVariants.{Quote, AndAlso, OrElse, Function, Unknown}
 
--- a function, where there is one of that name that takes so many arguments
+-- the function that was found by name and number of arguments, if there is one
 abbrev pub function_callee : Option Primitive → Callee
 function_callee None = Unknown
 function_callee (Some f) = Function f

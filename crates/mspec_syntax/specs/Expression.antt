@@ -1,5 +1,5 @@
--- What stands in conditions and bodies. (ERTS User's Guide, "Match Specifications in Erlang",
--- "Grammar": ConditionExpression, ExprMatchVariable, TermConstruct, BoolFunction, GuardFunction.)
+-- The expressions of conditions and bodies. (ERTS User's Guide, "Match Specifications in Erlang", "Grammar":
+-- ConditionExpression, ExprMatchVariable, TermConstruct, BoolFunction, GuardFunction.)
 use Rattle.std.specs.Prelude.{ℕ, suc, ◌+◌, List, [], ◌∷◌}
 use Rattle.term_core.specs.Datum.{Datum}
 use Rattle.term_core.specs.Datum.Datum.{nil}
@@ -7,9 +7,9 @@ use Rattle.prims_table.specs.declared.prim.Primitive.{Primitive}
 use Rattle.mspec_syntax.specs.Pattern.{literal_tail_nodes}
 
 mutual
-  -- A variable's value, the object ('$_'), the list of all variables' values ('$$'), a term that
-  -- stands for itself, or one behind const; a call of a function, of andalso or of orelse; a tuple,
-  -- a cell of a list or a map that is made of values.
+  -- An expression: a variable's value, the object ('$_'), the list of all variables' values ('$$'), a term that means
+  -- itself, or a term quoted by const; a call of a function, of andalso or of orelse; or a tuple, a cell of a list or a
+  -- map made of values.
   pub data Expression : Type 0 where
     bound : ℕ → Expression
     object : Expression
@@ -28,7 +28,7 @@ mutual
     no_expressions : Expressions
     expression : Expression → Expressions → Expressions
 
-  -- the keys of a map, which stand for themselves, each with the expression of its value
+  -- the keys of a map, which mean themselves, each with the expression of its value
   pub data Assignments : Type 0 where
     no_assignments : Assignments
     assignment : Datum → Expression → Assignments → Assignments
@@ -38,35 +38,35 @@ abbrev pub expressions_of : List Expression → Expressions
 expressions_of [] = no_expressions
 expressions_of (e ∷ es) = expression e (expressions_of es)
 
--- a list of keys and expressions as those of a map
+-- a list of keys and expressions as the assignments of a map
 abbrev pub assignments_of : List (Datum × Expression) → Assignments
 assignments_of [] = no_assignments
 assignments_of (a ∷ ms) = assignment a.0 a.1 (assignments_of ms)
 
--- elements followed by a tail
+-- the list expression of these elements and this tail
 abbrev pub new_cells : List Expression → Expression → Expression
 new_cells [] tail = tail
 new_cells (e ∷ es) tail = new_cell e (new_cells es tail)
 
--- how many arguments or elements these are
+-- the number of arguments or elements
 abbrev pub expression_count : Expressions → ℕ
 expression_count no_expressions = 0
 expression_count (expression e es) = suc (expression_count es)
 
--- the keys of a map, as they stand
+-- the keys of a map, in their order
 abbrev pub assignment_keys : Assignments → List Datum
 assignment_keys no_assignments = []
 assignment_keys (assignment k e ms) = k ∷ assignment_keys ms
 
--- neither [] nor a cell
+-- an expression that is neither [] nor a cell
 abbrev pub IsNoListExpression : Expression → Type 0
 IsNoListExpression (constant nil) = ⊥
 IsNoListExpression (new_cell e f) = ⊥
 IsNoListExpression e = Unit {0}
 
 abbrev mutual
-  -- how many expressions stand in an expression, itself among them, '$$' being one and one more for
-  -- each variable of its clause's head: a tail where it isn't [], and each key of a map as one
+  -- The number of nodes of an expression: itself and all expressions in it. '$$' counts one, and one more for each
+  -- variable of its clause's head. A tail counts unless it is [], and each key of a map counts one.
   pub expression_nodes : ℕ → Expression → ℕ
   expression_nodes variables (bound n) = 1
   expression_nodes variables object = 1
@@ -91,7 +91,7 @@ abbrev mutual
   assignments_nodes variables (assignment k e ms) =
       suc (expression_nodes variables e + assignments_nodes variables ms)
 
-  -- the elements that go on in a tail, and the tail at their end
+  -- the nodes of the remaining elements of a list and of the tail at their end
   pub rest_nodes : ℕ → Expression → ℕ
   rest_nodes variables (bound n) = 1
   rest_nodes variables object = 1
@@ -106,7 +106,7 @@ abbrev mutual
   rest_nodes variables (new_map ms) = suc (assignments_nodes variables ms)
 
 abbrev mutual
-  -- a number that is less for each part
+  -- the size of an expression, which is less for each of its parts
   pub expression_size : Expression → ℕ
   expression_size (bound n) = 1
   expression_size object = 1

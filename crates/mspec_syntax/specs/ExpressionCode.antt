@@ -1,5 +1,5 @@
--- An expression as a row of numbers, functions and terms that gives it back, by which proofs tell expressions apart.
--- Each part stands behind its own parts, and a stack of what was read so far takes them together.
+-- An expression as a row of numbers, functions and terms from which it can be read back. Proofs use it to tell
+-- expressions apart. Each part follows its own parts, and a stack of what was read so far puts them together.
 use Rattle.std.specs.Prelude.{ℕ, ◌≡◌, ◌==◌, if◌then◌else◌, List, [], ◌∷◌, refl}
 use Rattle.std.specs.Coded.{Coded, code_by, coded×, coded_ℕ, coded_list}
 use Rattle.std.proofs.Common.{◌∙◌, ap}
@@ -16,7 +16,7 @@ use Rattle.mspec_syntax.specs.Expression.Expression.{bound, object, bindings, co
 use Rattle.mspec_syntax.specs.Expression.Expressions.{no_expressions, expression}
 use Rattle.mspec_syntax.specs.Expression.Assignments.{no_assignments, assignment}
 
--- a kind of part, a variable's number, a term and a function
+-- one part in such a row: the number of its kind, a variable's number, a term and a function
 abbrev pub Mark : Type 0
 Mark = ℕ × (ℕ × (Datum × Primitive))
 

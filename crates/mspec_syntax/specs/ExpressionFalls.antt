@@ -25,7 +25,7 @@ list_falls [] f weight h some = absurd (omega arith)
 list_falls (e ∷ []) f weight h some = omega arith
 list_falls (e ∷ d ∷ es) f weight h some = omega (arith, list_falls (d ∷ es) f weight h (omega arith))
 
--- no part is as large as the expression
+-- no part of an expression is as large as the expression
 pub parts_fall : {A : Type 0} (G : allocator.Ghosts A) (k : ExpressionKind A) → IsKept k → max (deep-ExpressionKind A G k) 0 ≤ expression_size (expression_of k)
 parts_fall G (kind.Variable n) h = omega arith
 parts_fall G kind.Object h = omega arith

@@ -1,4 +1,4 @@
--- The expression that a kind of the program stands for.
+-- The expression that a kind of the program represents.
 use Rattle.std.specs.Prelude.{◌<◌, length, Option, Some, None, Box}
 use Rattle.term_core.specs.Datum.Datum.{nil}
 use Rattle.mspec_syntax.specs.Expression.{Expression, expressions_of, assignments_of, assignment_keys, new_cells, IsNoListExpression}
@@ -7,7 +7,7 @@ use Rattle.mspec_syntax.specs.Expression.Expression.{bound, object, bindings, co
 use Rattle.mspec_syntax.specs.declared.expression.ExpressionKind.{ExpressionKind}
 use Rattle.mspec_syntax.specs.declared.expression.ExpressionKind.TheVariants as kind
 
--- a tail, [] where there is none
+-- the tail as an expression, [] where there is none
 abbrev pub tail_expression : {A : Type 0} → Option (Box Expression A) → Expression
 tail_expression None = constant nil
 tail_expression (Some b) = b.value
@@ -25,12 +25,12 @@ expression_of (kind.Tuple es) = new_tuple (expressions_of es.items)
 expression_of (kind.List es tail) = new_cells es.items (tail_expression tail)
 expression_of (kind.Map ms) = new_map (assignments_of ms.items)
 
--- a tail that is no list
+-- a tail that is not a list, or none
 abbrev pub IsTailExpression : {A : Type 0} → Option (Box Expression A) → Type 0
 IsTailExpression None = Unit {0}
 IsTailExpression (Some b) = IsNoListExpression b.value
 
--- A list has an element, and no list for a tail. A map's keys rise.
+-- What a kind guarantees: a list has an element and a tail that is not a list, and a map has ascending keys.
 abbrev pub IsKept : {A : Type 0} → ExpressionKind A → Type 0
 IsKept (kind.List es tail) = (0 < length es.items) × IsTailExpression tail
 IsKept (kind.Map ms) = AreKeysRising (assignment_keys (assignments_of ms.items))

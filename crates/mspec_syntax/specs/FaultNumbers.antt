@@ -1,9 +1,9 @@
--- The numbers of faults, and what stands behind them.
+-- The numbers of faults, and the clause and the variable that they name.
 use Rattle.std.specs.Prelude.{ℕ, Option, Some, None}
 use Rattle.mspec_syntax.specs.declared.fault.SpecFault.{SpecFault}
 use Rattle.mspec_syntax.specs.declared.fault.SpecFault.TheVariants as fault
 
--- the number that programs print
+-- the number that programs print for a fault
 abbrev pub number_of : SpecFault → ℕ
 number_of fault.Memory = 1
 number_of fault.NotAList = 10
@@ -18,7 +18,7 @@ number_of (fault.VariableInMapKey clause) = 19
 number_of (fault.Unbound clause variable) = 16
 number_of fault.TooLarge = 20
 
--- the clause in which it stands
+-- the number of the clause with the fault, None if it is not in a clause
 abbrev pub clause_of : SpecFault → Option ℕ
 clause_of fault.Memory = None
 clause_of fault.NotAList = None
@@ -33,7 +33,7 @@ clause_of (fault.VariableInMapKey clause) = Some clause
 clause_of (fault.Unbound clause variable) = Some clause
 clause_of fault.TooLarge = None
 
--- the number of the variable that is not bound
+-- the number of the variable that is not bound, None for any other fault
 abbrev pub variable_of : SpecFault → Option ℕ
 variable_of (fault.Unbound clause variable) = Some variable
 variable_of f = None

@@ -1,5 +1,5 @@
--- What is wrong with a term as a specification: its faults in reading order. An outer term's fault
--- stands before those inside it, these from the left, and a map's pairs by rising key.
+-- What is wrong with a term as a specification: its faults in reading order. An outer term's fault comes before those
+-- inside it; these are in order from the left, and those of a map's pairs in ascending key order.
 use Rattle.std.specs.Prelude.{ℕ, suc, ◌≡◌, ◌⊎◌, Bool, true, false, if◌then◌else◌, Option, Some, None, List, [], ◌∷◌, ◌++◌}
 use Rattle.term_core.specs.Datum.{Datum, Items, Entries, item_count, proper_elements}
 use Rattle.term_core.specs.Datum.Datum.{integer, atom, tuple, map, nil, cons, binary}
@@ -18,7 +18,7 @@ use Rattle.mspec_syntax.specs.declared.word.Word.TheVariants as word
 use Rattle.mspec_syntax.specs.declared.fault.SpecFault.{SpecFault}
 use Rattle.mspec_syntax.specs.declared.fault.SpecFault.TheVariants.{Memory, NotAList, NotAClause, BadHead, BadConditions, BadBody, UnknownCall, Unbound, BadVariableName, BadExpression, VariableInMapKey, TooLarge}
 
--- one fault where a test says so
+-- one fault if a test says so, else none
 abbrev pub fault_if : Bool → SpecFault → List SpecFault
 fault_if true f = f ∷ []
 fault_if false f = []
@@ -53,7 +53,7 @@ word_variables (word.Variable n) = n ∷ []
 word_variables w = []
 
 abbrev mutual
-  -- the variables that a head's term names, from the left, as often as they stand
+  -- the variables that a head's term names, from the left, as often as they occur
   pub named_variables : Datum → List ℕ
   named_variables (integer z) = []
   named_variables (atom cs) = word_variables (word_of cs)
@@ -71,7 +71,7 @@ abbrev mutual
   entries_variables no_entries = []
   entries_variables (entry k v es) = named_variables v ++ entries_variables es
 
--- a whole head is a variable, '_' or a tuple
+-- the faults of a whole head of clause i: a head is a variable, '_' or a tuple
 abbrev pub head_faults : ℕ → Datum → List SpecFault
 head_faults i (atom cs) = fault_if (if is_hole (word_of cs) then false else true) (BadHead i)
 head_faults i (tuple ds) = items_faults i ds
@@ -83,7 +83,7 @@ word_faults i variables (word.Variable n) =
 word_faults i variables word.Misnumbered = BadVariableName i ∷ []
 word_faults i variables w = []
 
--- of a call whose arguments have these faults
+-- the faults of a call, given those of its arguments
 abbrev pub call_faults : ℕ → Callee → List SpecFault → List SpecFault
 call_faults i callee.Quote faults = []
 call_faults i callee.Unknown faults = UnknownCall i ∷ []
@@ -101,7 +101,7 @@ abbrev mutual
       expression_faults i variables head ++ expression_faults i variables tail
   expression_faults i variables (binary bs) = []
 
-  -- of a tuple: an atom first has to call something, and else the tuple holds one tuple
+  -- the faults of a tuple: it has to begin with an atom that calls something, or contain just one tuple
   pub tuple_faults : ℕ → List ℕ → Items → List SpecFault
   tuple_faults i variables (item (atom cs) ds) =
       call_faults i (callee_of cs (item_count ds)) (parts_faults i variables ds)
@@ -113,7 +113,7 @@ abbrev mutual
   parts_faults i variables (item d ds) =
       expression_faults i variables d ++ parts_faults i variables ds
 
-  -- of a map's values; its keys stand for themselves
+  -- the faults of a map's values; its keys mean themselves
   pub values_faults : ℕ → List ℕ → Entries → List SpecFault
   values_faults i variables no_entries = []
   values_faults i variables (entry k v es) =
@@ -124,18 +124,18 @@ expressions_faults i variables [] = []
 expressions_faults i variables (d ∷ ds) =
     expression_faults i variables d ++ expressions_faults i variables ds
 
--- a proper list
+-- the faults of conditions, which have to be a proper list
 abbrev pub conditions_faults : ℕ → List ℕ → Option (List Datum) → List SpecFault
 conditions_faults i variables None = BadConditions i ∷ []
 conditions_faults i variables (Some ds) = expressions_faults i variables ds
 
--- a proper list with an element at least
+-- the faults of a body, which has to be a proper list with at least one element
 abbrev pub body_faults : ℕ → List ℕ → Option (List Datum) → List SpecFault
 body_faults i variables None = BadBody i ∷ []
 body_faults i variables (Some []) = BadBody i ∷ []
 body_faults i variables (Some (d ∷ ds)) = expressions_faults i variables (d ∷ ds)
 
--- head, conditions, body
+-- the faults of clause i: of its head, its conditions and its body
 abbrev pub clause_faults : ℕ → Datum → List SpecFault
 clause_faults i (tuple (item head (item conditions (item body no_items)))) =
     head_faults i head
@@ -145,7 +145,7 @@ clause_faults i (tuple (item head (item conditions (item body no_items)))) =
     )
 clause_faults i d = NotAClause i ∷ []
 
--- the faults of the clauses from number i on
+-- the faults of clauses numbered from i on
 abbrev pub clauses_faults : ℕ → List Datum → List SpecFault
 clauses_faults i [] = []
 clauses_faults i (d ∷ ds) = clause_faults i d ++ clauses_faults (suc i) ds
@@ -154,30 +154,30 @@ abbrev pub elements_faults : Option (List Datum) → List SpecFault
 elements_faults None = NotAList ∷ []
 elements_faults (Some ds) = clauses_faults 0 ds
 
--- all faults of a term as a specification but for its size
+-- all faults of a term as a specification, except for its size
 abbrev pub specification_faults : Datum → List SpecFault
 specification_faults d = elements_faults (proper_elements d)
 
--- the fault that stands first
+-- a fault is the first of these
 pub record IsFirst (f : SpecFault) (faults : List SpecFault) : Type 0 where
   pub others : List SpecFault
   pub first : faults ≡ f ∷ others
 
--- a reader's refusal: no memory was given, or this is the first fault
+-- a reader fails with this fault: memory ran out, or it is the first of these faults
 abbrev pub Refuses : SpecFault → List SpecFault → Type 0
 Refuses f faults = (f ≡ Memory) ⊎ IsFirst f faults
 
--- a term that is a specification, but too large a one
+-- a term is a specification, but one that exceeds the limits
 pub record IsTooLarge (d : Datum) : Type 0 where
   pub specification : Specification
   pub is : IsSpecification d specification
   pub large : ¬ IsWithinLimits specification
 
--- why a specification is refused that has no fault
+-- why a specification without faults is rejected: memory ran out, or it exceeds the limits
 abbrev pub IsSizeRefusal : SpecFault → Specification → Type 0
 IsSizeRefusal f s = (f ≡ Memory) ⊎ ((f ≡ TooLarge) × ¬ IsWithinLimits s)
 
--- why a term is refused: want of memory, its first fault, or its size where it has no fault
+-- why a term is rejected: memory ran out, its first fault, or its size if it has no fault
 abbrev pub IsRefusal : SpecFault → Datum → Type 0
 IsRefusal f d = Refuses f (specification_faults d) ⊎ ((f ≡ TooLarge) × IsTooLarge d)
 

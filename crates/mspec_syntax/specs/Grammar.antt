@@ -21,19 +21,19 @@ use Rattle.mspec_syntax.specs.declared.word.Callee.TheVariants as callee
 use Rattle.mspec_syntax.specs.declared.word.Word.{Word}
 use Rattle.mspec_syntax.specs.declared.word.Word.TheVariants as word
 
--- a variable's name or '_'
+-- a word is a variable or '_'
 abbrev pub is_hole : Word → Bool
 is_hole (word.Variable n) = true
 is_hole word.Underscore = true
 is_hole w = false
 
--- $ and digits that are no number
+-- a word is $ and digits that are not a variable's number
 abbrev pub is_misnumbered : Word → Bool
 is_misnumbered word.Misnumbered = true
 is_misnumbered w = false
 
 abbrev mutual
-  -- an atom of this kind stands somewhere in the term
+  -- an atom whose word passes the test occurs in a term
   pub mentions : (Word → Bool) → Datum → Bool
   mentions test (integer z) = false
   mentions test (atom cs) = test (word_of cs)
@@ -52,12 +52,12 @@ abbrev mutual
   entries_mention test (entry k v es) =
       mentions test k || (mentions test v || entries_mention test es)
 
--- a key that stands for itself
+-- a key that means itself
 pub record IsKey (k : Datum) : Type 0 where
   pub whole : mentions is_hole k ≡ false
   pub numbered : mentions is_misnumbered k ≡ false
 
--- an atom inside a head: a variable, '_', or itself
+-- an atom inside a head is read as this pattern: a variable, '_', or itself
 abbrev pub IsAtomPattern : List ℕ → Word → Pattern → Type 0
 IsAtomPattern cs (word.Variable n) p = p ≡ variable n
 IsAtomPattern cs word.Misnumbered p = ⊥
@@ -65,7 +65,7 @@ IsAtomPattern cs word.Underscore p = p ≡ anything
 IsAtomPattern cs w p = p ≡ literal (atom cs)
 
 abbrev mutual
-  -- a term inside a head: tuples, lists and maps of patterns, and terms that stand for themselves
+  -- a term inside a head is read as this pattern: tuples, lists and maps of patterns, and terms that mean themselves
   pub IsPattern : Datum → Pattern → Type 0
   IsPattern (integer z) p = p ≡ literal (integer z)
   IsPattern (atom cs) p = IsAtomPattern cs (word_of cs) p
@@ -86,18 +86,18 @@ abbrev mutual
   AreFields (entry k v es) (field l p fs) = IsKey k × (l ≡ k) × IsPattern v p × AreFields es fs
   AreFields es fs = ⊥
 
--- a whole head: a variable, '_' or a tuple
+-- a pattern that may be a whole head: a variable, '_' or a tuple
 abbrev pub IsHeadForm : Pattern → Type 0
 IsHeadForm (variable n) = Unit {0}
 IsHeadForm anything = Unit {0}
 IsHeadForm (tuple_of ps) = Unit {0}
 IsHeadForm p = ⊥
 
--- a variable stands among these
+-- a variable is among these
 abbrev pub is_among : List ℕ → ℕ → Bool
 is_among ns n = list_any (λ m. m == n) ns
 
--- an atom in a condition or a body, under a head with these variables
+-- an atom in a condition or a body, under a head with these variables, is read as this expression
 abbrev pub IsAtomExpression : List ℕ → List ℕ → Word → Expression → Type 0
 IsAtomExpression variables cs (word.Variable n) e = (is_among variables n ≡ true) × (e ≡ bound n)
 IsAtomExpression variables cs word.Misnumbered e = ⊥
@@ -105,12 +105,12 @@ IsAtomExpression variables cs word.Object e = e ≡ object
 IsAtomExpression variables cs word.Bindings e = e ≡ bindings
 IsAtomExpression variables cs w e = e ≡ constant (atom cs)
 
--- the term behind const
+-- the term after const is read as this expression
 abbrev pub IsQuoted : Items → Expression → Type 0
 IsQuoted (item d no_items) e = e ≡ quoted d
 IsQuoted ds e = ⊥
 
--- what an atom calls, of these terms, which are read as such arguments
+-- a call of these terms is read as this expression, given what their reading as arguments means
 abbrev pub IsCall : Callee → (Expressions → Type 0) → Items → Expression → Type 0
 IsCall callee.Quote Arguments ds e = IsQuoted ds e
 IsCall callee.AndAlso Arguments ds (and_also es) = Arguments es
@@ -119,7 +119,7 @@ IsCall (callee.Function f) Arguments ds (call g es) = (g ≡ f) × Arguments es
 IsCall c Arguments ds e = ⊥
 
 abbrev mutual
-  -- a term in a condition or a body
+  -- a term in a condition or a body, under a head with these variables, is read as this expression
   pub IsExpression : List ℕ → Datum → Expression → Type 0
   IsExpression variables (integer z) e = e ≡ constant (integer z)
   IsExpression variables (atom cs) e = IsAtomExpression variables cs (word_of cs) e
@@ -131,22 +131,22 @@ abbrev mutual
   IsExpression variables (binary bs) e = e ≡ constant (binary bs)
   IsExpression variables d e = ⊥
 
-  -- the elements of a tuple: an atom that calls something and its arguments, or one tuple, whose elements are to be
-  -- made
+  -- The elements of a tuple are read as this expression: an atom that calls something and its arguments, or one tuple,
+  -- which is made of its elements.
   pub IsTupleExpression : List ℕ → Items → Expression → Type 0
   IsTupleExpression variables (item (atom cs) ds) e =
       IsCall (callee_of cs (item_count ds)) (AreParts variables ds) ds e
   IsTupleExpression variables (item (tuple ds) no_items) (new_tuple es) = AreParts variables ds es
   IsTupleExpression variables ds e = ⊥
 
-  -- arguments or elements, each an expression
+  -- arguments or elements are each read as an expression
   pub AreParts : List ℕ → Items → Expressions → Type 0
   AreParts variables no_items no_expressions = Unit {0}
   AreParts variables (item d ds) (expression e es) =
       IsExpression variables d e × AreParts variables ds es
   AreParts variables ds es = ⊥
 
-  -- the pairs of a map, whose keys stand for themselves, each value an expression
+  -- the pairs of a map are read as assignments: its keys mean themselves, each value is read as an expression
   pub AreAssignments : List ℕ → Entries → Assignments → Type 0
   AreAssignments variables no_entries no_assignments = Unit {0}
   AreAssignments variables (entry k v es) (assignment l e ms) =
@@ -159,12 +159,12 @@ AreExpressions variables (d ∷ ds) (e ∷ es) =
     IsExpression variables d e × AreExpressions variables ds es
 AreExpressions variables ds es = ⊥
 
--- the elements of a list of conditions
+-- the elements of a list of conditions are read as these expressions
 abbrev pub AreConditions : List ℕ → Option (List Datum) → List Expression → Type 0
 AreConditions variables None es = ⊥
 AreConditions variables (Some ds) es = AreExpressions variables ds es
 
--- the elements of a body, of which there is one at least
+-- the elements of a body, of which there is at least one, are read as these expressions
 abbrev pub AreBodyExpressions : List ℕ → Option (List Datum) → List Expression → Type 0
 AreBodyExpressions variables None es = ⊥
 AreBodyExpressions variables (Some []) es = ⊥
@@ -173,12 +173,13 @@ AreBodyExpressions variables (Some (d ∷ ds)) es = AreExpressions variables (d 
 abbrev pub triple : Datum → Datum → Datum → Datum
 triple a b c = tuple (item a (item b (item c no_items)))
 
--- no tuple of three
+-- a term that is not a tuple of three elements
 abbrev pub IsNoTriple : Datum → Type 0
 IsNoTriple (tuple (item a (item b (item c no_items)))) = ⊥
 IsNoTriple d = Unit {0}
 
--- a tuple of a head, a list of conditions and a body, which may name the variables of the head
+-- a tuple of a head, a list of conditions and a body is read as this clause; conditions and body may name the variables
+-- of the head
 abbrev pub IsClause : Datum → Clause → Type 0
 IsClause (tuple (item head (item conditions (item body no_items)))) c =
     IsPattern head c.head
@@ -196,6 +197,6 @@ abbrev pub AreElementsClauses : Option (List Datum) → Specification → Type 0
 AreElementsClauses None s = ⊥
 AreElementsClauses (Some ds) s = AreClauses ds s
 
--- a proper list of clauses
+-- a proper list of clauses is read as this specification
 abbrev pub IsSpecification : Datum → Specification → Type 0
 IsSpecification d s = AreElementsClauses (proper_elements d) s

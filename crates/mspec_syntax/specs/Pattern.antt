@@ -1,13 +1,11 @@
--- The head of a clause: a term with holes. (ERTS User's Guide, "Match Specifications in Erlang",
--- "Grammar": MatchHead.)
+-- The head of a clause: a term with holes. (ERTS User's Guide, "Match Specifications in Erlang", "Grammar": MatchHead.)
 use Rattle.std.specs.Prelude.{ℕ, suc, ◌+◌, Option, Some, None, option_map, List, [], ◌∷◌, ◌++◌}
 use Rattle.term_core.specs.Datum.{Datum, Items}
 use Rattle.term_core.specs.Datum.Datum.{tuple, nil, cons}
 use Rattle.term_core.specs.Datum.Items.{no_items, item}
 
 mutual
-  -- A variable by its number, '_', a term without parts, or a tuple, a list of cells or a map of
-  -- patterns.
+  -- A pattern: a variable by its number, '_', a term without parts, or a tuple, a list of cells or a map of patterns.
   pub data Pattern : Type 0 where
     variable : ℕ → Pattern
     anything : Pattern
@@ -21,7 +19,7 @@ mutual
     no_patterns : Patterns
     pattern : Pattern → Patterns → Patterns
 
-  -- the keys of a map, which stand for themselves, each with the pattern of its value
+  -- the keys of a map, which mean themselves, each with the pattern of its value
   pub data Fields : Type 0 where
     no_fields : Fields
     field : Datum → Pattern → Fields → Fields
@@ -31,22 +29,22 @@ abbrev pub patterns_of : List Pattern → Patterns
 patterns_of [] = no_patterns
 patterns_of (p ∷ ps) = pattern p (patterns_of ps)
 
--- a list of keys and patterns as those of a map
+-- a list of keys and patterns as the fields of a map
 abbrev pub fields_of : List (Datum × Pattern) → Fields
 fields_of [] = no_fields
 fields_of (f ∷ fs) = field f.0 f.1 (fields_of fs)
 
--- the keys of a map, as they stand
+-- the keys of a map, in their order
 abbrev pub field_keys : Fields → List Datum
 field_keys no_fields = []
 field_keys (field k p fs) = k ∷ field_keys fs
 
--- elements followed by a tail
+-- the list pattern of these elements and this tail
 abbrev pub cells_of : List Pattern → Pattern → Pattern
 cells_of [] tail = tail
 cells_of (p ∷ ps) tail = cell_of p (cells_of ps tail)
 
--- neither [] nor a cell
+-- a pattern that is neither [] nor a cell
 abbrev pub IsNoListPattern : Pattern → Type 0
 IsNoListPattern (variable n) = Unit {0}
 IsNoListPattern anything = Unit {0}
@@ -57,7 +55,7 @@ IsNoListPattern (cell_of p q) = ⊥
 IsNoListPattern (map_of fs) = Unit {0}
 
 abbrev mutual
-  -- the numbers of the variables, from the left, as often as they stand
+  -- the numbers of a pattern's variables, from the left, as often as they occur
   pub pattern_variables : Pattern → List ℕ
   pattern_variables (variable n) = n ∷ []
   pattern_variables anything = []
@@ -83,7 +81,7 @@ own_item (Some d) (Some ds) = Some (item d ds)
 own_item d ds = None
 
 abbrev mutual
-  -- the term that a pattern spells, where neither a variable, '_' nor a map stands in it
+  -- the term that a pattern spells, None if it contains a variable, '_' or a map
   pub own_term : Pattern → Option Datum
   own_term (variable n) = None
   own_term anything = None
@@ -96,14 +94,14 @@ abbrev mutual
   own_terms no_patterns = Some no_items
   own_terms (pattern p ps) = own_item (own_term p) (own_terms ps)
 
--- [] at the end of a list is no pattern of its own
+-- the nodes of a term as the tail of a list: [] at the end of a list is not a node
 abbrev pub literal_tail_nodes : Datum → ℕ
 literal_tail_nodes nil = 0
 literal_tail_nodes d = 1
 
 abbrev mutual
-  -- how many patterns stand in a pattern, itself among them: a tail where it isn't [], and each key
-  -- of a map as one
+  -- The number of nodes of a pattern: itself and all patterns in it. A tail counts unless it is [], and each key of a
+  -- map counts one.
   pub pattern_nodes : Pattern → ℕ
   pattern_nodes (variable n) = 1
   pattern_nodes anything = 1
@@ -120,7 +118,7 @@ abbrev mutual
   fields_nodes no_fields = 0
   fields_nodes (field k p fs) = suc (pattern_nodes p + fields_nodes fs)
 
-  -- the elements that go on in a tail, and the tail at their end
+  -- the nodes of the remaining elements of a list and of the tail at their end
   pub tail_nodes : Pattern → ℕ
   tail_nodes (variable n) = 1
   tail_nodes anything = 1
@@ -130,7 +128,7 @@ abbrev mutual
   tail_nodes (map_of fs) = suc (fields_nodes fs)
 
 abbrev mutual
-  -- a number that is less for each part
+  -- the size of a pattern, which is less for each of its parts
   pub pattern_size : Pattern → ℕ
   pattern_size (variable n) = 1
   pattern_size anything = 1

@@ -1,5 +1,5 @@
--- A pattern as a row of numbers and terms that gives it back, by which proofs tell patterns apart. Each part stands
--- behind its own parts, and a stack of what was read so far takes them together.
+-- A pattern as a row of numbers and terms from which it can be read back. Proofs use it to tell patterns apart. Each
+-- part follows its own parts, and a stack of what was read so far puts them together.
 use Rattle.std.specs.Prelude.{ℕ, ◌≡◌, ◌==◌, if◌then◌else◌, List, [], ◌∷◌, refl}
 use Rattle.std.specs.Coded.{Coded, code_by, coded×, coded_ℕ, coded_list}
 use Rattle.std.proofs.Common.{◌∙◌, ap}
@@ -11,7 +11,7 @@ use Rattle.mspec_syntax.specs.Pattern.Pattern.{variable, anything, literal, tupl
 use Rattle.mspec_syntax.specs.Pattern.Patterns.{no_patterns, pattern}
 use Rattle.mspec_syntax.specs.Pattern.Fields.{no_fields, field}
 
--- a kind of part, a variable's number and a term
+-- one part in such a row: the number of its kind, a variable's number and a term
 abbrev pub Mark : Type 0
 Mark = ℕ × (ℕ × Datum)
 

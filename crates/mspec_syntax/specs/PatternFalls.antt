@@ -25,7 +25,7 @@ list_falls [] q weight h some = absurd (omega arith)
 list_falls (p ∷ []) q weight h some = omega arith
 list_falls (p ∷ r ∷ ps) q weight h some = omega (arith, list_falls (r ∷ ps) q weight h (omega arith))
 
--- no part is as large as the pattern
+-- no part of a pattern is as large as the pattern
 pub parts_fall : {A : Type 0} (G : allocator.Ghosts A) (k : PatternKind A) → IsKept k → max (deep-PatternKind A G k) 0 ≤ pattern_size (pattern_of k)
 parts_fall G kind.Anything h = omega arith
 parts_fall G (kind.Variable n) h = omega arith

@@ -1,4 +1,4 @@
--- The pattern that a kind of the program stands for.
+-- The pattern that a kind of the program represents.
 use Rattle.std.specs.Prelude.{◌<◌, length, Option, Some, None, Box}
 use Rattle.term_core.specs.Datum.Datum.{nil}
 use Rattle.mspec_syntax.specs.Pattern.{Pattern, patterns_of, fields_of, cells_of, IsNoListPattern}
@@ -6,7 +6,7 @@ use Rattle.mspec_syntax.specs.Pattern.Pattern.{variable, anything, literal, tupl
 use Rattle.mspec_syntax.specs.declared.pattern.PatternKind.{PatternKind}
 use Rattle.mspec_syntax.specs.declared.pattern.PatternKind.TheVariants as kind
 
--- a tail, [] where there is none
+-- the tail as a pattern, [] where there is none
 abbrev pub tail_pattern : {A : Type 0} → Option (Box Pattern A) → Pattern
 tail_pattern None = literal nil
 tail_pattern (Some b) = b.value
@@ -19,12 +19,12 @@ pattern_of (kind.Tuple ps) = tuple_of (patterns_of ps.items)
 pattern_of (kind.List ps tail) = cells_of ps.items (tail_pattern tail)
 pattern_of (kind.Map fs) = map_of (fields_of fs.items)
 
--- a tail that is no list
+-- a tail that is not a list, or none
 abbrev pub IsTailPattern : {A : Type 0} → Option (Box Pattern A) → Type 0
 IsTailPattern None = Unit {0}
 IsTailPattern (Some b) = IsNoListPattern b.value
 
--- A list has an element, and no list for a tail.
+-- What a kind guarantees: a list has an element and a tail that is not a list.
 abbrev pub IsKept : {A : Type 0} → PatternKind A → Type 0
 IsKept kind.Anything = Unit {0}
 IsKept (kind.Variable n) = Unit {0}

@@ -1,4 +1,4 @@
--- The numbers of a list in rising order, each once.
+-- The numbers of a list in ascending order, each once.
 use Rattle.std.specs.Prelude.{ℕ, zero, suc, ◌==◌, nat_lt, if◌then◌else◌, List, [], ◌∷◌}
 
 abbrev pub insert_rising : ℕ → List ℕ → List ℕ
@@ -10,7 +10,7 @@ abbrev pub rising : List ℕ → List ℕ
 rising [] = []
 rising (n ∷ ns) = insert_rising n (rising ns)
 
--- how many of these stand before a number, which is one of them
+-- the number of these before a number, or of all if it is not among them
 abbrev pub rank_of : List ℕ → ℕ → ℕ
 rank_of [] n = zero
 rank_of (m ∷ ms) n = if m == n then zero else suc (rank_of ms n)

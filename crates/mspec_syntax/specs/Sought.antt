@@ -1,4 +1,4 @@
--- The kinds of atoms that are looked for in a map's key.
+-- The kinds of atoms that a map's key is searched for.
 use Rattle.std.specs.Prelude.{Bool}
 use Rattle.mspec_syntax.specs.Grammar.{is_hole, is_misnumbered}
 use Rattle.mspec_syntax.specs.declared.word.Word.{Word}

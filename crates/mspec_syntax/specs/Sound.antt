@@ -1,4 +1,4 @@
--- What holds of each part of a specification, since it was read of a term.
+-- What each part of a specification satisfies because it was read from a term.
 use Rattle.std.specs.Prelude.{ℕ, ◌≡◌, ◌<◌, true, List, length, IfSome}
 use Rattle.std.specs.List.{All}
 use Rattle.term_core.specs.Datum.{Datum, cells}
@@ -17,17 +17,17 @@ use Rattle.mspec_syntax.specs.Expression.Expressions.{no_expressions, expression
 use Rattle.mspec_syntax.specs.Expression.Assignments.{no_assignments, assignment}
 use Rattle.mspec_syntax.specs.Specification.{Clause, clause_variables}
 
--- The keys of a map rise, and their list is a term.
+-- The keys of a map are in ascending order, and their list is a term.
 pub record AreSoundKeys (keys : List Datum) : Type 0 where
   pub rising : AreKeysRising keys
   pub listed : IsTerm (cells keys nil)
 
--- where neither a variable, '_' nor a map stands in a pattern, what it spells is a term
+-- if a pattern contains no variable, '_' or map, what it spells is a term
 abbrev pub SpellsTerm : Pattern → Type 0
 SpellsTerm p = IfSome (own_term p) IsTerm
 
 abbrev mutual
-  -- each pattern in it spells a term where it spells any, and the keys of its maps are sound
+  -- each pattern in a pattern spells a term if it spells anything, and the keys of its maps are sound
   pub IsSoundPattern : Pattern → Type 0
   IsSoundPattern (variable n) = Unit {0}
   IsSoundPattern anything = Unit {0}
@@ -40,15 +40,15 @@ abbrev mutual
   AreSoundPatterns no_patterns = Unit {0}
   AreSoundPatterns (pattern p ps) = IsSoundPattern p × AreSoundPatterns ps
 
-  -- the keys of a map and its values' patterns
+  -- the keys of a map and the patterns of its values are sound
   pub AreSoundFields : Fields → Type 0
   AreSoundFields no_fields = Unit {0}
   AreSoundFields (field k p fs) = IsTerm k × IsSoundPattern p × AreSoundFields fs
 
 abbrev mutual
-  -- Under a head with these variables each variable in it is one of them, each function takes as
-  -- many arguments as it is given, andalso and orelse have one at least, what stands for itself is
-  -- a term, and the keys of its maps are sound.
+  -- An expression under a head with these variables is sound. Each variable in it is one of them. Each function takes
+  -- the number of arguments that it is given; andalso and orelse have at least one. Terms that mean themselves are
+  -- terms, and the keys of its maps are sound.
   pub IsSoundExpression : List ℕ → Expression → Type 0
   IsSoundExpression variables (bound n) = is_among variables n ≡ true
   IsSoundExpression variables object = Unit {0}
@@ -72,13 +72,13 @@ abbrev mutual
   AreSoundExpressions variables (expression e es) =
       IsSoundExpression variables e × AreSoundExpressions variables es
 
-  -- the keys of a map and its values' expressions
+  -- the keys of a map and the expressions of its values are sound
   pub AreSoundAssignments : List ℕ → Assignments → Type 0
   AreSoundAssignments variables no_assignments = Unit {0}
   AreSoundAssignments variables (assignment k e ms) =
       IsTerm k × IsSoundExpression variables e × AreSoundAssignments variables ms
 
--- a head, conditions and a body of which all parts are sound, with an expression in the body
+-- a clause with sound parts and at least one expression in its body
 pub record IsSoundClause (c : Clause) : Type 0 where
   pub head : IsSoundPattern c.head
   pub conditions : All (IsSoundExpression (clause_variables c)) c.conditions

@@ -5,7 +5,7 @@ use Rattle.mspec_syntax.specs.Pattern.{Pattern, pattern_variables, pattern_nodes
 use Rattle.mspec_syntax.specs.Expression.{Expression, expression_nodes}
 use Rattle.mspec_syntax.specs.Rising.{rising}
 
--- a head, the conditions on what it binds, and the body that answers
+-- a head, the conditions on what it binds, and the body that gives the answer
 pub record Clause : Type 0 where
   pub head : Pattern
   pub conditions : List Expression
@@ -15,11 +15,11 @@ pub record Clause : Type 0 where
 abbrev pub Specification : Type 0
 Specification = List Clause
 
--- the variables that a clause binds, in rising order
+-- the variables that a clause binds, in ascending order
 abbrev pub clause_variables : Clause → List ℕ
 clause_variables c = rising (pattern_variables c.head)
 
--- each clause, pattern, map key and expression counts
+-- the number of nodes of a clause: the clause itself, and the nodes of its head, conditions and body
 abbrev pub clause_nodes : Clause → ℕ
 clause_nodes c =
     let nodes = expression_nodes (length (clause_variables c)) in
@@ -32,22 +32,22 @@ abbrev pub heads_variables : Specification → List ℕ
 heads_variables [] = []
 heads_variables (c ∷ cs) = pattern_variables c.head ++ heads_variables cs
 
--- the variables of all clauses together, in rising order
+-- the variables of all clauses together, in ascending order
 abbrev pub specification_variables : Specification → List ℕ
 specification_variables s = rising (heads_variables s)
 
--- the limits of this engine
+-- the largest number of nodes of a specification
 abbrev pub most_nodes : ℕ
 most_nodes = 8000
 
 abbrev pub most_variables : ℕ
 most_variables = 256
 
--- the size that is accepted
+-- a specification small enough to be accepted
 pub record IsWithinLimits (s : Specification) : Type 0 where
   pub nodes : specification_nodes s ≤ most_nodes
   pub variables : length (specification_variables s) ≤ most_variables
 
--- what is left of some room when so many nodes are taken away, none where there are more
+-- what is left of some room after this number of nodes is taken, None if there are more nodes
 abbrev pub Leaves : Option ℕ → ℕ → ℕ → Type 0
 Leaves left room nodes = MatchOption left (room < nodes) (λ rest. rest + nodes ≡ room)

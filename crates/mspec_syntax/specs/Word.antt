@@ -1,5 +1,5 @@
--- What an atom says in a specification. (ERTS User's Guide, "Match Specifications in Erlang",
--- "Grammar": MatchVariable.)
+-- What an atom means in a specification. (ERTS User's Guide, "Match Specifications in Erlang", "Grammar":
+-- MatchVariable.)
 use Rattle.std.specs.Prelude.{ℕ, ◌==◌, nat_le, Bool, true, false, ◌&&◌, not, if◌then◌else◌, List, [], ◌∷◌, length}
 use Rattle.std.specs.List.{list_all}
 use Rattle.std.specs.Char.{is_ascii_digit}
@@ -17,7 +17,7 @@ underscore = 95
 abbrev pub zero_digit : ℕ
 zero_digit = 48
 
--- the most digits of a variable's number, so that it is 99,999,999 at most
+-- the largest number of digits of a variable's number, which is so at most 99,999,999
 abbrev pub most_digits : ℕ
 most_digits = 8
 
@@ -25,7 +25,7 @@ most_digits = 8
 abbrev pub are_digits : List ℕ → Bool
 are_digits ds = not (length ds == 0) && list_all is_ascii_digit ds
 
--- at most as many digits as a number may have, and no 0 before others
+-- at most as many digits as a variable's number may have, and no 0 before others
 abbrev pub is_number : List ℕ → Bool
 is_number [] = false
 is_number (d ∷ []) = true
@@ -35,7 +35,7 @@ abbrev pub is_just : ℕ → List ℕ → Bool
 is_just c (d ∷ []) = d == c
 is_just c ds = false
 
--- what follows a $
+-- what an atom means that begins with $ and goes on with these characters
 abbrev pub dollar_word : List ℕ → Word
 dollar_word cs =
     if are_digits cs then (if is_number cs then Variable (digits_value 10 cs) else Misnumbered)
@@ -43,8 +43,8 @@ dollar_word cs =
     else if is_just dollar cs then Bindings
     else Plain
 
--- A variable is $N, N being 0 or without leading zeros, of 1 to 8 digits. Of the others _, $_ and
--- $$ have a meaning, and $ followed by digits alone is refused.
+-- A variable is $N, where N is 0 or a number of 1 to 8 digits without leading zeros. Of the other atoms _, $_ and $$
+-- have a meaning, and $ followed by other digits is rejected.
 abbrev pub word_of : List ℕ → Word
 word_of [] = Plain
 word_of (c ∷ cs) =

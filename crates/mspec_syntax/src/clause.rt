@@ -40,7 +40,7 @@ impl<A: Allocator> Clause<A> {
     ghost use Rattle.mspec_syntax.specs.Rising.{rising};
     ghost use Rattle.mspec_syntax.specs.Pattern.{pattern_variables};
 
-    /// The clause of these parts, of which the variables are the head's.
+    /// Makes a clause of these parts. The variables are those of the head.
     pub fn new(
         head: Pattern<A>,
         variables: Variables<A>,
@@ -60,28 +60,28 @@ impl<A: Allocator> Clause<A> {
         }
     }
 
-    /// The pattern that an object has to match.
+    /// Returns the pattern that an object has to match.
     pub fn head(&self) -> &Pattern<A>
         ensures { result.now ≡ self.now.head }
     {
         &self.head
     }
 
-    /// The variables of the head.
+    /// Returns the variables of the head.
     pub fn variables(&self) -> &Variables<A>
         ensures { result.now ≡ clause_variables self.now }
     {
         &self.variables
     }
 
-    /// What has to hold of the object.
+    /// Returns the conditions that have to hold for an object that matches the head.
     pub fn conditions(&self) -> &[Expression<A>]
         ensures { result.now ≡ self.now.conditions }
     {
         self.conditions.as_slice()
     }
 
-    /// The expressions of the body, of which the last is the answer.
+    /// Returns the expressions of the body, of which the last one gives the answer.
     pub fn body(&self) -> &[Expression<A>]
         ensures { result.now ≡ self.now.body }
     {
@@ -89,8 +89,7 @@ impl<A: Allocator> Clause<A> {
     }
 }
 
-/// A specification, read and found to be one, of at most 8,000 nodes and 256 variables
-/// (`IsWithinLimits`).
+/// A specification that was read from a term, with at most 8,000 nodes and 256 variables (`IsWithinLimits`).
 #[derive(Drop)]
 pub struct Spec<A: Allocator = Global> {
     clauses: Vec<Clause<A>, A>,
@@ -123,7 +122,7 @@ impl<A: Allocator> Spec<A> {
     ghost use Rattle.mspec_syntax.specs.Faults.{IsReadable};
     ghost use Rattle.mspec_syntax.specs.Sound.{IsSoundClause};
 
-    /// The specification of these clauses, of which the variables are the heads'.
+    /// Makes a specification of these clauses. The variables are those of all heads.
     pub fn new(clauses: Vec<Clause<A>, A>, variables: Variables<A>) -> Self
         requires readable { IsReadable clauses.items }
         requires limits { IsWithinLimits clauses.items }
@@ -133,7 +132,7 @@ impl<A: Allocator> Spec<A> {
         Spec { clauses, variables }
     }
 
-    /// The clauses, in the order in which they are tried.
+    /// Returns the clauses, in the order in which they are tried.
     pub fn clauses(&self) -> &[Clause<A>]
         ensures value { result.now ≡ self.now }
         ensures readable { IsReadable self.now }
@@ -143,7 +142,7 @@ impl<A: Allocator> Spec<A> {
         self.clauses.as_slice()
     }
 
-    /// The variables of all clauses together.
+    /// Returns the variables of all heads together.
     pub fn variables(&self) -> &Variables<A>
         ensures { result.now ≡ specification_variables self.now }
     {

@@ -1,4 +1,4 @@
-//! What stands in conditions and bodies.
+//! The expressions of conditions and bodies.
 use prims_table::Primitive;
 use std::alloc::{Allocator, Global};
 use std::marker::Model;
@@ -6,26 +6,34 @@ use term_core::Term;
 
 /// An expression of a condition or a body.
 #[cycle(expression)]
-#[derive(Drop)]
 pub struct Expression<A: Allocator = Global> {
     kind: ExpressionKind<A>,
 }
 
-/// What an expression is.
+/// By hand: a function that drops one has one call in its proof, and not a case for each way in which its parts are dropped.
+impl<A: Allocator> Drop for Expression<A> {
+    #[cycle(expression)]
+    fn drop(self) {
+        let Expression { kind } = self;
+        drop(kind);
+    }
+}
+
+/// The kind of an expression, with its parts.
 #[cycle(expression)]
 #[derive(Drop)]
 pub enum ExpressionKind<A: Allocator> {
-    /// The value of a variable.
+    /// The value of the variable with this number.
     Variable(u32),
     /// `'$_'`: the whole object.
     Object,
-    /// `'$$'`: the list of the values of all variables, in rising order of their numbers.
+    /// `'$$'`: the list of the values of all variables, in ascending order of their numbers.
     Bindings,
-    /// An integer, an atom, `[]` or a binary, which stands for itself.
+    /// An integer, an atom, `[]` or a binary, whose value is itself.
     Constant(Term<A>),
     /// `{const, T}`: the term `T`, whatever it is.
     Quoted(Term<A>),
-    /// A function of the values of these arguments, of which there are as many as it takes.
+    /// A call of a function with the values of these arguments. The function takes this number of arguments.
     Call(Primitive, Vec<Expression<A>, A>),
     /// `andalso` of one or more arguments.
     AndAlso(Vec<Expression<A>, A>),
@@ -33,10 +41,10 @@ pub enum ExpressionKind<A: Allocator> {
     OrElse(Vec<Expression<A>, A>),
     /// The tuple of the values of these elements.
     Tuple(Vec<Expression<A>, A>),
-    /// The list of the values of these elements, of which there is one at least, and of its tail where that is not
-    /// `[]`. The tail is no list.
+    /// The list of the values of these elements, of which there is at least one, with the value of its tail if that is
+    /// not `[]`. The tail is not a list.
     List(Vec<Expression<A>, A>, Option<Box<Expression<A>, A>>),
-    /// The map of these keys, by rising key, and the values of their expressions.
+    /// The map of these keys, in ascending order, with the values of their expressions.
     Map(Vec<(Term<A>, Expression<A>), A>),
 }
 
@@ -66,7 +74,7 @@ impl<A: Allocator> Expression<A> {
     ghost use Rattle.std.specs.Prelude.{◌≡◌};
     ghost use Rattle.mspec_syntax.specs.ExpressionView.{expression_of, IsKept};
 
-    /// The expression of this kind.
+    /// Makes the expression of this kind.
     pub fn new(kind: ExpressionKind<A>) -> Self
         requires { IsKept kind }
         ensures { result ≡ expression_of kind }
@@ -74,7 +82,7 @@ impl<A: Allocator> Expression<A> {
         Expression { kind }
     }
 
-    /// What the expression is.
+    /// Returns the kind of the expression, with its parts.
     pub fn kind(&self) -> &ExpressionKind<A>
         ensures value { expression_of result.now ≡ self.now }
         ensures kept { IsKept result.now }

@@ -1,42 +1,43 @@
-//! Why a term is no specification.
+//! Why a term is not a specification.
 use std::alloc::{AllocError, AllocFailed};
 use thiserror::Error;
 
-/// Why a term is no specification. Clauses are numbered from 0.
+/// Why a term is not a specification. Clauses are numbered from 0.
 #[derive(Clone, Copy, Debug, PartialEq, Eq, Error)]
 pub enum SpecFault {
-    /// No memory was given.
+    /// An allocation failed.
     #[error("out of memory")]
     Memory,
-    /// The term is no proper list.
+    /// The term is not a proper list.
     #[error("the specification is no proper list")]
     NotAList,
-    /// The clause is no tuple of three.
+    /// The clause is not a tuple of three elements.
     #[error("clause {0} is no tuple of a head, conditions and a body")]
     NotAClause(usize),
-    /// The clause's head is no variable, `'_'` or tuple.
+    /// The clause's head is not a variable, `'_'` or a tuple.
     #[error("the head of clause {0} is no variable, '_' or tuple")]
     BadHead(usize),
-    /// The clause's conditions are no list of conditions.
+    /// The clause's conditions are not a proper list.
     #[error("the conditions of clause {0} are no list of conditions")]
     BadConditions(usize),
-    /// The clause's body is no proper list with an element.
+    /// The clause's body is not a proper list with at least one element.
     #[error("the body of clause {0} is no proper list with an element")]
     BadBody(usize),
-    /// The clause has a tuple in a condition or its body that begins with an atom, and this is no function that takes
-    /// so many arguments.
+    /// A condition or the body of the clause has a tuple that begins with an atom, and there is no function of this
+    /// name that takes this number of arguments.
     #[error("clause {0} calls what is no function of so many arguments")]
     UnknownCall(usize),
     /// A condition or the body of the clause names this variable, and its head does not.
     #[error("clause {0} names the variable {1}, which its head does not bind")]
     Unbound(usize, u32),
-    /// The clause has an atom of `$` and digits that is no variable: a 0 before other digits, or too many digits.
+    /// The clause has an atom of `$` and digits that is not a variable: it has a 0 before other digits, or more than 8
+    /// digits.
     #[error("clause {0} has $ and digits that are no variable's name")]
     BadVariableName(usize),
-    /// The clause has a term in a condition or its body that is no expression.
+    /// A condition or the body of the clause has a term that is not an expression.
     #[error("clause {0} has a term that is no expression")]
     BadExpression(usize),
-    /// A key of a map in the clause's head holds a variable or `'_'`.
+    /// A key of a map in the clause's head contains a variable or `'_'`.
     #[error("a key of a map in the head of clause {0} holds a variable or '_'")]
     VariableInMapKey(usize),
     /// The specification has more than 8,000 nodes or 256 distinct variables.
@@ -48,7 +49,7 @@ impl SpecFault {
     ghost use Rattle.std.specs.Prelude.{◌≡◌};
     ghost use Rattle.mspec_syntax.specs.FaultNumbers.{number_of, clause_of, variable_of};
 
-    /// The number that the fault has in what programs print.
+    /// Returns the number, 1 or 10 to 20, that programs print for the fault.
     pub const fn number(self) -> u8
         ensures { result ≡ number_of self }
     {
@@ -68,7 +69,7 @@ impl SpecFault {
         }
     }
 
-    /// The clause in which the fault stands.
+    /// Returns the number of the clause with the fault, or `None` if the fault is not in a clause.
     pub const fn clause(self) -> Option<usize>
         ensures { result ≡ clause_of self }
     {
@@ -86,7 +87,7 @@ impl SpecFault {
         }
     }
 
-    /// The number of the variable that is not bound.
+    /// Returns the number of the variable if the fault is `Unbound`, otherwise `None`.
     pub const fn variable(self) -> Option<u32>
         ensures { result ≡ variable_of self }
     {

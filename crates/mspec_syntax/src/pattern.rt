@@ -3,29 +3,37 @@ use std::alloc::{Allocator, Global};
 use std::marker::Model;
 use term_core::Term;
 
-/// A pattern: a term with variables and `'_'` in it.
+/// A pattern: a term that may contain variables and `'_'`.
 #[cycle(pattern)]
-#[derive(Drop)]
 pub struct Pattern<A: Allocator = Global> {
     kind: PatternKind<A>,
 }
 
-/// What a pattern is.
+/// By hand: a function that drops one has one call in its proof, and not a case for each way in which its parts are dropped.
+impl<A: Allocator> Drop for Pattern<A> {
+    #[cycle(pattern)]
+    fn drop(self) {
+        let Pattern { kind } = self;
+        drop(kind);
+    }
+}
+
+/// The kind of a pattern, with its parts.
 #[cycle(pattern)]
 #[derive(Drop)]
 pub enum PatternKind<A: Allocator> {
     /// `'_'`, which matches any term.
     Anything,
-    /// A variable, by its number.
+    /// The variable with this number.
     Variable(u32),
     /// An integer, an atom, `[]` or a binary, which matches itself.
     Literal(Term<A>),
-    /// A tuple's elements.
+    /// A tuple of these patterns.
     Tuple(Vec<Pattern<A>, A>),
-    /// The elements of a list, of which there is one at least, and its tail where that is not `[]`. The tail is no
+    /// The elements of a list, of which there is at least one, and its tail if that is not `[]`. The tail is not a
     /// list.
     List(Vec<Pattern<A>, A>, Option<Box<Pattern<A>, A>>),
-    /// A map's keys, by rising key, with the patterns of their values.
+    /// A map's keys with the patterns of their values. Keys read from a term are in ascending order.
     Map(Vec<(Term<A>, Pattern<A>), A>),
 }
 
@@ -55,7 +63,7 @@ impl<A: Allocator> Pattern<A> {
     ghost use Rattle.std.specs.Prelude.{◌≡◌};
     ghost use Rattle.mspec_syntax.specs.PatternView.{pattern_of, IsKept};
 
-    /// The pattern of this kind.
+    /// Makes the pattern of this kind.
     pub fn new(kind: PatternKind<A>) -> Self
         requires { IsKept kind }
         ensures { result ≡ pattern_of kind }
@@ -63,7 +71,7 @@ impl<A: Allocator> Pattern<A> {
         Pattern { kind }
     }
 
-    /// What the pattern is.
+    /// Returns the kind of the pattern, with its parts.
     pub fn kind(&self) -> &PatternKind<A>
         ensures value { pattern_of result.now ≡ self.now }
         ensures kept { IsKept result.now }

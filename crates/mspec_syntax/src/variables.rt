@@ -8,7 +8,7 @@ use std::alloc::{AllocError, Allocator, Global};
 use std::marker::Model;
 use term_core::Term;
 
-/// The numbers of variables in rising order, each once.
+/// The numbers of variables in ascending order, each once.
 #[derive(Drop)]
 pub struct Variables<A: Allocator = Global> {
     numbers: Vec<u32, A>,
@@ -32,7 +32,7 @@ impl<A: Allocator> Variables<A> {
     ghost use Rattle.mspec_syntax.specs.Pattern.{pattern_variables};
     ghost use Rattle.mspec_syntax.specs.Specification.{specification_variables};
 
-    /// These numbers in rising order, each once.
+    /// Sorts these numbers in ascending order, and keeps each once.
     pub(crate) fn new(mut numbers: Vec<u32, A>) -> Self
         ensures { result ≡ rising numbers.items }
     {
@@ -41,7 +41,7 @@ impl<A: Allocator> Variables<A> {
         Variables { numbers }
     }
 
-    /// The variables of a pattern.
+    /// Returns the variables of a pattern. Fails if an allocation fails.
     pub fn of_pattern(alloc: A, pattern: &Pattern<A>) -> Result<Self, AllocError>
         ensures { IfOk result (λ v. v ≡ rising (pattern_variables pattern.now)) }
     {
@@ -50,7 +50,7 @@ impl<A: Allocator> Variables<A> {
         Ok(Variables::new(numbers))
     }
 
-    /// The variables of all heads together.
+    /// Returns the variables of all heads of these clauses together. Fails if an allocation fails.
     pub fn of_clauses(alloc: A, clauses: &[Clause<A>]) -> Result<Self, AllocError>
         ensures { IfOk result (λ v. v ≡ specification_variables clauses.now) }
     {
@@ -61,35 +61,35 @@ impl<A: Allocator> Variables<A> {
         Ok(Variables::new(numbers))
     }
 
-    /// The numbers in rising order.
+    /// Returns the numbers in ascending order.
     pub fn numbers(&self) -> &[u32]
         ensures { result.now ≡ self.now }
     {
         self.numbers.as_slice()
     }
 
-    /// How many variables there are.
+    /// Returns the number of variables.
     pub fn len(&self) -> usize
         ensures { result ≡ length self.now }
     {
         self.numbers.len()
     }
 
-    /// Whether there is no variable.
+    /// Returns whether there are no variables.
     pub fn is_empty(&self) -> bool
         ensures { result ≡ (length self.now == 0) }
     {
         self.numbers.is_empty()
     }
 
-    /// Whether the variable is one of these.
+    /// Returns whether the variable is one of these.
     pub fn contains(&self, number: u32) -> bool
         ensures { result ≡ is_among self.now number }
     {
         self.rank(number).is_some()
     }
 
-    /// The place of a variable's number, from 0.
+    /// Returns the place of a variable's number, counted from 0, or `None` if it is not one of these.
     pub fn rank(&self, number: u32) -> Option<usize>
         ensures found { IfSome result (λ rank. slice_get self.now rank ≡ Some number) }
         ensures missing { IfNone result (is_among self.now number ≡ false) }
@@ -101,7 +101,7 @@ impl<A: Allocator> Variables<A> {
         }
     }
 
-    /// How many of the variables stand before this one, all of them where it is none of them.
+    /// Returns the number of variables before this one, or of all variables if it is not one of these.
     pub fn count_before(&self, number: u32) -> usize
         ensures { result ≡ rank_of self.now number }
     {
@@ -112,7 +112,7 @@ impl<A: Allocator> Variables<A> {
     }
 }
 
-/// Adds the variables of a pattern, from the left.
+/// Appends the variables of a pattern to `numbers`, from the left, as often as they occur.
 #[cycle(variables)]
 pub(crate) fn collect<A: Allocator>(
     pattern: &Pattern<A>,
@@ -138,7 +138,7 @@ pub(crate) fn collect<A: Allocator>(
     }
 }
 
-/// Adds the variables of these patterns.
+/// Appends the variables of these patterns to `numbers`.
 #[cycle(variables)]
 fn collect_all<A: Allocator>(
     patterns: &[Pattern<A>],
@@ -153,7 +153,7 @@ fn collect_all<A: Allocator>(
     Ok(())
 }
 
-/// Adds the variables of the values' patterns.
+/// Appends the variables of the patterns of these fields' values to `numbers`.
 #[cycle(variables)]
 fn collect_fields<A: Allocator>(
     fields: &[(Term<A>, Pattern<A>)],

@@ -1,4 +1,4 @@
--- Runs of a list, each of which something was made of.
+-- Runs of a list, with a value for each run.
 use Rattle.std.proofs.Common.{◌≡◌, List, [], ◌∷◌, ◌++◌, Bor, map, refl, ap, sym, subst, ◌∙◌, Result, Ok, Err, IfOk}
 use Rattle.std.specs.List.{AllZip, flat_map}
 use Rattle.std.specs.Prelude.{MatchResult}
@@ -15,7 +15,7 @@ module _ {X Y V : Type 0} (values : V → List Y) (f : X → Y) where
       ap (λ l. l ++ flat_map values vs) each.0 ∙ ap (λ l. map f run.now ++ l) (all_joined runs vs each.1)
       ∙ sym (map-append f run.now (flat_map (λ l. l) (map (λ (r : Bor (List X)). r.now) runs)))
 
-  -- the lists that were made of the runs of a list, one behind the other
+  -- the lists that were made from the runs of a list, joined
   pub joined : (items : List X) (made : List V) → AreOfRuns (λ run v. values v ≡ map f run.now) items made
       → flat_map values made ≡ map f items
   joined items made h = all_joined h.0 made h.2 ∙ ap (map f) h.1
@@ -27,7 +27,7 @@ module _ {X V E : Type 0} (P : X → Result V E → Type 0) where
   all_ok (run ∷ runs) [] each = absurd each
   all_ok (run ∷ runs) (v ∷ vs) each = (each.0, all_ok runs vs each.1)
 
-  -- what a chain over runs was collected into, where each was answered
+  -- the values into which a chain over runs was collected, if each run has its result
   pub collected : {W : Type 0} (values : W → List V) (runs : List X) (answered : List (Result V E)) (all : Result W E)
       (F : E → Type 0) → AllZip P runs answered
       → MatchResult all (λ w. (vs : List V) × (answered ≡ map Ok vs) × (values w ≡ vs)) F

@@ -1,7 +1,7 @@
-//! A list of objects answered by several threads.
+//! Answering a list of objects with several threads.
 //!
-//! The one contract: `run_list` gives the answers of code on a list of objects, in their order, whatever the number of
-//! threads.
+//! The one contract: `run_list` returns the answers of code for a list of objects, in their order, whatever the number
+//! of threads.
 //!
 //! - `list`: the runs of a list, in threads (`specs/Runs.antt`); `runs`: a run of objects, which one machine answers.
 #![tactic(auto)]

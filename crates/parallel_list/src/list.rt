@@ -1,4 +1,4 @@
-//! The answers on a list of objects, by several threads.
+//! The answers for a list of objects, computed by several threads.
 ghost use Rattle.std.specs.Prelude.{◌≡◌, ◌<◌, IfOk, Ok, map, vec_items};
 ghost use Rattle.std.specs.List.{flat_map};
 ghost use Rattle.mcode.specs.Answer.{answer_of};
@@ -15,7 +15,8 @@ use verifier::Verified;
 /// The fewest objects that are worth a thread of their own.
 pub const LEAST_RUN: usize = 1024;
 
-/// How many objects a run has: there are two runs for each thread, since runs differ in what they take.
+/// Returns the number of objects of a run, at least 1,024: there are at most two runs for each thread, since runs take
+/// different times.
 fn run_size<R: Threads>(rt: &R, count: usize) -> usize
     ensures { 0 < result }
 {
@@ -23,7 +24,8 @@ fn run_size<R: Threads>(rt: &R, count: usize) -> usize
     count.div_ceil(runs).max(LEAST_RUN)
 }
 
-/// What a function makes of runs of so many items, side by side, in the order of the runs.
+/// Applies a function to runs of `size` items, in parallel, and returns the results in the order of the runs. Fails if
+/// an allocation fails, also one of the function.
 fn map_runs<
     R: Threads + Sync,
     T: Sync,
@@ -49,7 +51,7 @@ fn map_runs<
         .collect(rt, alloc)
 }
 
-/// What code answers on runs of so many objects, side by side.
+/// Returns the answers of code for runs of `size` objects, computed in parallel. Fails if an allocation fails.
 fn answer_runs<R: Threads + Sync, A: Allocator + Copy + Send + Sync>(
     rt: &R,
     alloc: A,
@@ -72,7 +74,7 @@ fn answer_runs<R: Threads + Sync, A: Allocator + Copy + Send + Sync>(
     )
 }
 
-/// The answers of runs, one behind the other.
+/// Returns the answers of all runs, joined in the order of the runs. Fails if an allocation fails.
 fn join_runs<A: Allocator + Copy>(
     alloc: A,
     count: usize,
@@ -89,9 +91,9 @@ fn join_runs<A: Allocator + Copy>(
     Ok(answers)
 }
 
-/// The answers of code on objects, in their order, none where an object has none (ets:match_spec_run/2 leaves these
-/// out). The objects are split into runs, which threads answer side by side, each by one machine; few objects are one
-/// run. It fails for want of memory alone.
+/// Returns the answers of code for objects, in their order, `None` for an object that has no answer
+/// (ets:match_spec_run/2 leaves these out). The objects are split into runs, which threads answer in parallel, each run
+/// with one machine. Fewer than 2,048 objects are one run. Fails only if an allocation fails.
 pub fn run_list<R: Threads + Sync, A: Allocator + Copy + Send + Sync>(
     rt: &R,
     alloc: A,

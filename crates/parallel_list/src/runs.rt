@@ -7,7 +7,7 @@ use std::alloc::{AllocError, Allocator};
 use term_core::Term;
 use verifier::Verified;
 
-/// Puts what a machine answers on an object behind other answers.
+/// Appends the answer of a machine for an object to `answers`, which has room for it. Fails if an allocation fails.
 fn answer<'a, A: Allocator + Copy>(
     machine: &mut Machine<'a, '_, A>,
     object: &'a Term<A>,
@@ -24,7 +24,8 @@ fn answer<'a, A: Allocator + Copy>(
     Ok(())
 }
 
-/// What a machine answers on objects, in their order.
+/// Appends the answers of a machine for objects, in their order, to `answers`, which is empty. Fails if an allocation
+/// fails.
 fn answer_each<'a, A: Allocator + Copy>(
     machine: &mut Machine<'a, '_, A>,
     objects: &'a [Term<A>],
@@ -40,7 +41,8 @@ fn answer_each<'a, A: Allocator + Copy>(
     Ok(())
 }
 
-/// What code answers on a run of objects, in their order, by one machine.
+/// Returns the answers of code for a run of objects, in their order, computed with one machine. Fails if an allocation
+/// fails.
 pub(crate) fn answer_run<'a, A: Allocator + Copy>(
     alloc: A,
     code: &'a Verified<A>,

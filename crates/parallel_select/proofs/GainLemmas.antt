@@ -1,4 +1,4 @@
--- Visits of a walk, and what is gained by them.
+-- Visits of a walk, and what they gain.
 use Rattle.std.proofs.Common.{◌≡◌, ◌≢◌, ℕ, ◌+◌, ◌<◌, inl, inr, ap, sym, subst, ◌∙◌, arith, Option, option_map, Some, List, [], ◌++◌, length}
 use Rattle.std.specs.Prelude.{get_or, min}
 use Rattle.std.proofs.lemmas.List.{append_assoc, append-nil, length-append}
@@ -50,14 +50,14 @@ pub counted_too : {A : Type 0} (g : Gained A) (all : List Datum) → IsGained g 
 counted_too (gained.Answers a) all is = tt
 counted_too (gained.Count n) all is = is
 
--- ---- visit behind visit
+-- ---- visit after visit
 
 -- no visit, and nothing gained
 pub gains_nothing : {A : Type 0} (h : Home) (w : Walk) (first at : Position) (g : Gained A) (now : Views → Type 0) → first ≡ at → Follows now now (GoesGaining h w first at g g)
 gains_nothing h w first at g now same v b =
     (v, b, ([], subst (λ (p : Position). Goes h w whole (way v first []) (way v p [])) same stays, λ earlier is. subst (IsGained g) (sym (append-nil earlier)) is))
 
--- one visit more
+-- one more visit
 pub gains_once : {A : Type 0} (h : Home) (w : Walk) (first at later : Position) (next : Option Cursor) (before_all g k : Gained A) (before now then : Views → Type 0) → IsAt h w → at ≢ Over → next_position w at next ≡ later → Follows before now (GoesGaining h w first at before_all g) → Follows now then (Visited h (part_at w at) w.purpose w.program (scope_at w at) next g k) → Follows before then (GoesGaining h w first later before_all k)
 gains_once h w first at later next before_all g k before now then is_at open_still is_later so_far visit v b =
     let s = so_far v b in
@@ -74,7 +74,7 @@ gains_once h w first at later next before_all g k before now then is_at open_sti
           ),
     )
 
--- visits, and then one that was refused, or whose answers found no memory
+-- visits, and then one that failed, or whose answers could not be stored
 missed : {A : Type 0} (h : Home) (w : Walk) (first at : Position) (before_all g k : Gained A) (f : Fault) (v x u : Views) → IsAt h w → IsWalk w → at ≢ Over → IsPosition w v first → AreLegal h.options x → AreLegal h.options u → GoesGaining h w first at before_all g v x → Missed h (part_at w at) w.purpose w.program (scope_at w at) f g k x u → StopsGaining h w first before_all k v u
 missed h w first at before_all g k f v x u is_at walk open_still position legal legal_then so_far (inr m) =
     let went = so_far in
@@ -107,7 +107,7 @@ gains_until h w at before_all g k f before now then is_at walk open_still legal 
     let t = visit s.0 s.1 in
     (t.0, t.1, missed h w (start_of w) at before_all g k f v s.0 t.0 is_at walk open_still (begins_so_far w v walk).position (legal s.0 s.1) (legal_then t.0 t.1) s.2 t.2)
 
--- visits, and then none: what was gained so far
+-- visits, and then no further one: what was gained so far
 pub gains_so_far : {A : Type 0} (h : Home) (w : Walk) (first at : Position) (before_all g : Gained A) (before now : Views → Type 0) → ((v : Views) → now v → AreLegal h.options v) → Follows before now (GoesGaining h w first at before_all g) → Follows before now (StopsGaining h w first before_all g)
 gains_so_far h w first at before_all g before now legal so_far v b =
     let s = so_far v b in
@@ -125,7 +125,7 @@ gains_key h w first ks n part key before_all g k before now then is_at plan insi
     (subst (λ (j : Datum). Follows now then (Visited h (part_of (settings_of w.options) j) w.purpose w.program (Named j) next g k)) (sym named)
     (subst (λ (there : ℕ). Follows now then (Visited h there w.purpose w.program (Named key) next g k)) (sym part_is) visit))
 
--- one that was refused
+-- the visit of the next key that failed
 pub misses_key : {A : Type 0} (h : Home) (w : Walk) (ks : List Datum) (n part : ℕ) (key : Datum) (before_all g k : Gained A) (f : Fault) (before now then : Views → Type 0) → IsAt h w → IsWalk w → w.plan ≡ Some ks → n < length ks → get_or ks n nil ≡ key → part_of (settings_of w.options) key ≡ part → ((v : Views) → now v → AreLegal h.options v) → ((v : Views) → then v → AreLegal h.options v) → Follows before now (GoesGaining h w (start_of w) (at_key n (length ks)) before_all g) → Follows now then (Missed h part w.purpose w.program (Named key) f g k) → Follows before then (StopsGaining h w (start_of w) before_all k)
 misses_key h w ks n part key before_all g k f before now then is_at walk plan inside key_is part_is legal legal_then so_far visit =
     let named : named_at w.plan n ≡ key = named_is w ks n plan ∙ key_is in

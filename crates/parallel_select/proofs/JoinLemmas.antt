@@ -45,7 +45,7 @@ all_pairs P R ms of all i j d lt within = of _ _ (all i d (omega (arith, lt, wit
 -- ---- the walk of one part
 
 module _ {A : Type 0} (o : Options) (number : ℕ) (purpose : Purpose) (q : Query A) (part : ℕ) where
-  -- the keys that it does stand there
+  -- the keys that the walk does are in the part
   done_there : (k : Datum) → IsTrue (is_done (walk_through o number purpose q part) Over k) → place_of o k ≡ part
   done_there k = of (plan_of q o)
     where
@@ -57,7 +57,7 @@ module _ {A : Type 0} (o : Options) (number : ℕ) (purpose : Purpose) (q : Quer
   there_inside k is =
       and_true (nat_le part (place_of o k)) (nat_lt (place_of o k) (part + 1)) (le-leb part (place_of o k) (omega (arith, is))) (lt-ltb (place_of o k) (part + 1) (omega (arith, is)))
 
--- ---- its answer, among those of all parts
+-- ---- the walk's answer, among those of all parts
 
 module _ {A : Type 0} (o : Options) (numbers : ℕ → ℕ) (purpose : Purpose) (q : Query A) (workers : ℕ) (call : ℕ → Span) (now : ℕ → Views) where
   abbrev walks : PartWalks
@@ -100,7 +100,7 @@ module _ {A : Type 0} (o : Options) (numbers : ℕ → ℕ) (purpose : Purpose) 
       of k is (inl done) = met k is (answer.gathers.silent k done)
       of k is (inr none) = inr (inr none)
 
-  -- all parts
+  -- the answers of all parts are those that the walks found together
   pub all_gained : (gained : ℕ → List Datum) → 0 < o.parts
       → ((part : ℕ) → part < o.parts → IsAnswer (walks.walk part) (call part ∷ []) (walks.now part) (gained part) × IsOnce (walks.walk part) (call part ∷ []) (walks.now part) (is_done (walks.walk part) Over))
       → AreAnswers o q.code walks (gained_below gained o.parts)
@@ -135,7 +135,7 @@ module _ {A : Type 0} (o : Options) (number : ℕ) (purpose : Purpose) (q : Quer
       (parts_answered w.h purpose q (is_share workers (part % workers)) gained v w.well w.h.options.parts u (subst (λ (x : Options). ArePlaced x u) (sym w.options) placed) w.works part within within (eq-eqb (part % workers) (part % workers) refl)))
 
 module _ {A : Type 0} (o : Options) (numbers : ℕ → ℕ) (purpose : Purpose) (q : Query A) (workers : ℕ) (gained : ℕ → ℕ → List Datum) (before now : ℕ → Views) where
-  -- a walk's answer, once in this call
+  -- a walk has its answer within this call, and covers each key once
   record IsInCall (part : ℕ) (call : Span) : Type 0 where
     begins : IsGrown o (before (part % workers)) call.before
     ends : IsGrown o call.after (now (part % workers))
@@ -163,7 +163,7 @@ module _ {T A : Type 0} (is_ready : T → Type 0) (home : T → Home) (sees : T 
     (fits : (s : T) → is_ready s → (0 < (home s).options.parts) × ((home s).number < (home s).options.sessions))
     (legal : (s : T) (v : Views) (part : ℕ) → is_ready s → sees s v → part < (home s).options.parts → IsLegal (settings_of (home s).options) (v part))
     (o : Options) (numbers : ℕ → ℕ) (q : Query A) (before : ℕ → Views) where
-  -- members that are where they were
+  -- members that can still make turns, at the same table with the same numbers
   still_at : (olds news : List T) (d : T) (now : ℕ → Views) → length news ≡ length olds → AreAt is_ready home sees o numbers before olds
       → ((n : ℕ) → n < length olds → is_ready (get_or news n d) × (home (get_or news n d) ≡ home (get_or olds n d)) × sees (get_or news n d) (now n))
       → AreAt is_ready home sees o numbers now news
@@ -194,7 +194,7 @@ module _ {T A : Type 0} (is_ready : T → Type 0) (home : T → Home) (sees : T 
   some_parts olds d some at =
       subst (λ (x : Options). 0 < x.parts) (at.home_of 0 d some).0 (fits (get_or olds 0 d) (at.ready 0 d some)).0
 
-  -- what select_parts ensures
+  -- what select_parts guarantees of one member
   abbrev AnsweredBy : List (List Datum) → ℕ → ℕ → T → T → Type 0
   AnsweredBy lists workers n old new =
       (length lists ≡ (home old).options.parts)
@@ -222,12 +222,12 @@ module _ {T A : Type 0} (is_ready : T → Type 0) (home : T → Home) (sees : T 
             (λ n less. worked_of olds d Answers workers n (answers_of lists) (views.0 n) less at (views.1 n less).1)),
       )
 
-  -- what count_parts and delete_parts ensure
+  -- what count_parts and delete_parts guarantee of one member
   abbrev CountedBy : Purpose → ℕ → ℕ → ℕ → T → T → Type 0
   CountedBy purpose workers n count old new =
       Did is_ready home sees (λ h. Tallied h (part_walk h purpose q) (is_share workers n) false count) old new
 
-  -- what a worker saw in the end, and what it gained
+  -- what a worker saw at the end, and what it gained
   record Tally (purpose : Purpose) (workers n count : ℕ) (old new : T) (t : Views × (ℕ → List Datum)) : Type 0 where
     seen : sees new t.0
     works : Works (home old) (part_walk (home old) purpose q) (is_share workers n) t.1 (before n) (home old).options.parts t.0

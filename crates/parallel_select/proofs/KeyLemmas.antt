@@ -22,7 +22,7 @@ all_filter P p (k ∷ ks) h =
     (λ is. subst (AllByRecursion P) (sym (kept p k ks is)) (h.0, all_filter P p ks h.1))
     (λ is. subst (AllByRecursion P) (sym (left_out p k ks is)) (all_filter P p ks h.1))
 
--- distinct keys stay distinct
+-- distinct keys that pass a test are distinct
 pub distinct_filter : (p : Datum → Bool) (ks : List Datum) → IsDistinct is_same ks → IsDistinct is_same (filter p ks)
 distinct_filter p [] h = h
 distinct_filter p (k ∷ ks) h =
@@ -51,7 +51,7 @@ unnamed p k (j ∷ ks) here none =
     (by_test (is_same k j) _ (λ same. absurd (true≢false (sym here ∙ ap p (same_is k j same) ∙ is))) (λ other. other))
     (unnamed p k ks here (sym (ap (list_any (is_same k)) (left_out p j ks is)) ∙ none)))
 
--- a key among those of its part stands in that part
+-- a key among those of its part is in that part
 pub named_there : (p : Datum → Bool) (k : Datum) (ks : List Datum) → list_any (is_same k) (filter p ks) ≡ true → p k ≡ true
 named_there p k [] among = absurd (true≢false (sym among))
 named_there p k (j ∷ ks) among =
@@ -62,7 +62,7 @@ named_there p k (j ∷ ks) among =
     (λ other. named_there p k ks (sym (ap (λ (b : Bool). b || list_any (is_same k) (filter p ks)) other) ∙ sym (ap (list_any (is_same k)) (kept p j ks is)) ∙ among)))
     (λ is. named_there p k ks (sym (ap (list_any (is_same k)) (left_out p j ks is)) ∙ among))
 
--- how many keys of a part stand among the first ones
+-- how many of the first n keys are in the part
 abbrev pub count_first : (Datum → Bool) → ℕ → List Datum → ℕ
 count_first p n ks = length (filter p (take n ks))
 
@@ -85,7 +85,7 @@ skipped p (suc n) (k ∷ ks) inside is =
     (λ here. ap length (kept p k (take (suc n) ks) here) ∙ ap suc rest ∙ sym (ap length (kept p k (take n ks) here)))
     (λ there. ap length (left_out p k (take (suc n) ks) there) ∙ rest ∙ sym (ap length (left_out p k (take n ks) there)))
 
--- a key of another part changes nothing of that
+-- a key of another part doesn't change this number
 pub key_skipped : (p : Datum → Bool) (n : ℕ) (ks : List Datum) → n < length ks → p (get_or ks n nil) ≡ false → count_first p (n + 1) ks ≡ count_first p n ks
 key_skipped p n ks inside is = rw (next_is n) (skipped p n ks inside is)
 
@@ -100,7 +100,7 @@ taken p (suc n) (k ∷ ks) inside is =
     (λ here. rw (kept p k ks here, kept p k (take (suc n) ks) here, kept p k (take n ks) here) (ap suc rest.0, rest.1, omega (arith, rest.2)))
     (λ there. rw (left_out p k ks there, left_out p k (take (suc n) ks) there, left_out p k (take n ks) there) rest)
 
--- a key of the part is the next one
+-- a key of the part is the next of the part's keys
 pub key_taken : (p : Datum → Bool) (n : ℕ) (ks : List Datum) → n < length ks → p (get_or ks n nil) ≡ true
     → (count_first p (n + 1) ks ≡ count_first p n ks + 1) × (get_or (filter p ks) (count_first p n ks) nil ≡ get_or ks n nil) × (count_first p n ks < length (filter p ks))
 key_taken p n ks inside is =
@@ -115,11 +115,11 @@ take_whole [] (suc n) all = refl
 take_whole (k ∷ ks) zero all = absurd (omega (arith, all))
 take_whole (k ∷ ks) (suc n) all = ap (λ (js : List Datum). k ∷ js) (take_whole ks n (omega (arith, all)))
 
--- all keys of the part stand among all keys
+-- all keys of the part are among all keys
 pub all_there : (p : Datum → Bool) (n : ℕ) (ks : List Datum) → length ks ≤ n → count_first p n ks ≡ length (filter p ks)
 all_there p n ks all = all_first p n ks (take_whole ks n all)
 
--- what stands at a place doesn't go by what would stand elsewhere
+-- an element within a list doesn't depend on the default
 pub there : (ks : List Datum) (n : ℕ) (j k : Datum) → n < length ks → k ≡ get_or ks n j → get_or ks n nil ≡ k
 there [] n j k inside is = absurd (omega (arith, inside))
 there (i ∷ ks) zero j k inside is = sym is

@@ -31,7 +31,7 @@ changed_grown h act part false v u legal same = subst (IsGrown h.options v) (sym
 
 -- ---- one walk
 
--- the parts of what a walk did, one behind the other
+-- the steps of what a walk did, one after the other
 record Grows (h : Home) (w : Walk) (v fixed last u : Views) : Type 0 where
   first : IsGrown h.options v fixed
   walk : IsGrown h.options fixed last
@@ -82,7 +82,7 @@ selects_answers h w gained v u same is_at walk legal placed x =
       once = g.once;
     }
 
--- what was done before, and what is done later, changes nothing of it
+-- what was done before and what is done later doesn't change a walk's answer
 answered_later : (w : Walk) (gained : List Datum) (v x u t : Views) → IsWalk w → IsGrown w.options v x → IsGrown w.options u t → IsAnsweredWithin w gained x u → IsAnsweredWithin w gained v t
 answered_later w gained v x u t walk earlier later a = record {
   before = a.before;
@@ -103,7 +103,7 @@ gathered_later w at gained v x u earlier a = record {
   once = a.once;
 }
 
--- ---- all of a worker
+-- ---- all walks of a worker
 
 module _ {A : Type 0} (h : Home) (purpose : Purpose) (q : Query A) (own : ℕ → Bool) (gained : ℕ → List Datum) where
   passes_grown : (part : ℕ) (v u : Views) → AreLegal h.options v → Passes h (part_walk h purpose q) own part (gained part) v u → IsGrown h.options v u

@@ -1,10 +1,10 @@
--- Lists of answers, a part each.
+-- Lists of answers, one for each part.
 use Rattle.std.proofs.Common.{zero, suc, ◌≡◌, ◌≢◌, ℕ, ◌<◌, refl, ap, sym, arith, List, [], ◌∷◌, length, map, slice_set, get_or}
 use Rattle.term_core.specs.Datum.{Datum}
 use Rattle.parallel_select.specs.Parts.{answers_of}
 
 module _ {X : Type 0} (given : X → List Datum) where
-  -- one list in the place of another
+  -- replacing one list by another
   pub set_there : (xs : List X) (place : ℕ) (x : X) → place < length xs → answers_of (map given (slice_set xs place x)) place ≡ given x
   set_there [] place x inside = absurd (omega (arith, inside))
   set_there (y ∷ ys) zero x inside = refl

@@ -13,7 +13,7 @@ use Rattle.parallel_select.specs.Parts.{answers_of, is_share, number_gained, par
 use Rattle.parallel_select.specs.Workers.{Did, Each, EachAdding, EachAnswers, EachBroken, EachTallied, Tallied}
 use Rattle.parallel_select.proofs.StretchLemmas.{gained_below}
 
--- something for each number below another
+-- a choice for each number below another, as a function
 pub chosen : {X : Type 0} (count : ℕ) (x : X) (R : ℕ → X → Type 0) → ((n : ℕ) → n < count → (y : X) × R n y) → (f : ℕ → X) × ((n : ℕ) → n < count → R n (f n))
 chosen {X} count x R choose = ((λ n. (pick n (nat_lt n count) refl).0), (λ n. (pick n (nat_lt n count) refl).1))
   where
@@ -21,13 +21,13 @@ chosen {X} count x R choose = ((λ n. (pick n (nat_lt n count) refl).0), (λ n. 
     pick n true is = let c = choose n (ltb-true n count is) in (c.0, λ within. c.1)
     pick n false is = (x, λ within. let over = ltb-false n count is in absurd (omega (arith, over, within)))
 
--- the element at a place, whatever stands for those beyond
+-- an element within a list doesn't depend on the default
 pub same_there : {T : Type 0} (xs : List T) (n : ℕ) (d e : T) → n < length xs → get_or xs n d ≡ get_or xs n e
 same_there [] n d e within = absurd (omega (arith, within))
 same_there (x ∷ xs) zero d e within = refl
 same_there (x ∷ xs) (suc n) d e within = same_there xs n d e (omega (arith, within))
 
--- a total of numbers, from the first on
+-- the total of the first numbers of a sequence
 abbrev pub total_of : (ℕ → ℕ) → ℕ → ℕ
 total_of f zero = 0
 total_of f (suc count) = f 0 + total_of (λ n. f (suc n)) count
@@ -41,13 +41,13 @@ from_none n = omega arith
 none_is : (number : ℕ) → number ≡ number + 0
 none_is number = omega arith
 
--- one number in front of others
+-- a sequence with one more element in front
 abbrev in_front : {X : Type 0} → X → (ℕ → X) → ℕ → X
 in_front x f zero = x
 in_front x f (suc n) = f n
 
 module _ {T : Type 0} where
-  -- each stays where it was and can make turns
+  -- each member keeps its home and can make turns
   pub each_stays : (is_ready : T → Type 0) {H : Type 0} (home : T → H) (P : ℕ → T → T → Type 0) → ((n : ℕ) (old new : T) → P n old new → is_ready new × (home new ≡ home old)) → (number : ℕ) (olds news : List T) → Each P number olds news → All is_ready news × (map home news ≡ map home olds)
   each_stays is_ready home P stays number [] [] each = ((λ k d within. absurd (omega (arith, within))), refl)
   each_stays is_ready home P stays number (old ∷ olds) (new ∷ news) each =
@@ -83,7 +83,7 @@ module _ {T : Type 0} where
   each_first P olds news each n d e within =
       subst (λ k. P k (get_or olds n d) (get_or news n e)) (from_none n) (each_at P 0 olds news each n d e within)
 
-  -- numbers that add up to a total, one of each member
+  -- numbers, one for each member, that add up to a total
   pub record Adds (P : ℕ → ℕ → T → T → Type 0) (total number : ℕ) (olds news : List T) : Type 0 where
     pub counts : ℕ → ℕ
     pub each : (n : ℕ) (d e : T) → n < length olds → P (number + n) (counts n) (get_or olds n d) (get_or news n e)
@@ -120,7 +120,7 @@ module _ {T A : Type 0} (is_ready : T → Type 0) (home : T → Home) (sees : T 
   broken_stay number olds news each =
       each_stays is_ready home (λ n. Did is_ready home sees (λ h. Broken h (part_walk h Answers q) (is_share workers n))) (λ n old new did. (did.0, did.1)) number olds news each
 
-  -- members of a selection, whether or not it is refused
+  -- the members of a selection keep their homes and can make turns, whether or not it fails
   pub gathered_stay : {X E : Type 0} (given : X → List (List Datum)) (r : Result X E) (number : ℕ) (olds news : List T)
       → IfOk r (λ lists. EachAnswers is_ready home sees q workers (given lists) number olds news)
       → IfErr r (λ _. EachBroken is_ready home sees q workers number olds news)
@@ -151,7 +151,7 @@ total_plus : (f g : ℕ → ℕ) (count : ℕ) → total_of (λ n. f n + g n) co
 total_plus f g zero = refl
 total_plus f g (suc count) = let rest = total_plus (λ n. f (suc n)) (λ n. g (suc n)) count in omega (arith, rest)
 
--- numbers that were cut off at a limit one by one
+-- limiting each number of a sum doesn't change the limited sum
 pub total_capped : (limit : ℕ) (f g : ℕ → ℕ) (count : ℕ) → ((n : ℕ) → n < count → f n ≡ min (g n) limit) → min (total_of f count) limit ≡ min (total_of g count) limit
 total_capped limit f g zero each = refl
 total_capped limit f g (suc count) each =
@@ -159,7 +159,7 @@ total_capped limit f g (suc count) each =
     let rest = total_capped limit (λ n. f (suc n)) (λ n. g (suc n)) count (λ n within. each (suc n) (omega (arith, within))) in
     omega (arith, here, rest)
 
--- what workers count of their own parts is what there is of all parts
+-- what all workers count in their own parts adds up to what there is in all parts
 pub total_gained : (workers : ℕ) (gained : ℕ → ℕ → List Datum) → ((part : ℕ) → part % workers < workers) → (parts : ℕ)
     → total_of (λ n. number_gained (is_share workers n) (gained n) parts) workers ≡ length (gained_below (λ part. gained (part % workers) part) parts)
 total_gained workers gained shared zero = total_none (λ n. 0) workers (λ n. refl)
@@ -178,7 +178,7 @@ total_gained workers gained shared (suc part) =
     of n apart true is = absurd (apart (sym (eqb-true (part % workers) n is)))
     of n apart false is = refl
 
--- ---- lists of answers, one behind the other
+-- ---- lists of answers, joined
 
 first_below : {X : Type 0} (f : ℕ → List X) (count : ℕ) → gained_below f (suc count) ≡ f 0 ++ gained_below (λ n. f (suc n)) count
 first_below f zero = sym (append-nil (f 0))

@@ -1,4 +1,4 @@
--- A walk of one part, with the fix of its own.
+-- A walk of one part, with its own fix.
 use Rattle.std.proofs.Common.{◌≡◌, ℕ, ◌+◌, ◌<◌, sym, subst, ◌∙◌, arith, List, []}
 use Rattle.std.specs.Prelude.{Bool, true, IfOk, IfErr, Result, Ok, Err}
 use Rattle.std.proofs.Math.Logic.{∥∥₁_map}
@@ -17,14 +17,14 @@ use Rattle.walks.specs.Own.{is_fixed_first}
 use Rattle.parallel_select.specs.declared.gained.Gained.{Gained}
 use Rattle.parallel_select.specs.Parts.{ChangesFix, FixesFirst, GoesGaining, StopsGaining, SelectsGaining, CeasesGaining}
 
--- what a walk fixed first it holds at its end
+-- the fix that a walk made first is still there at its end
 held_by : (h : Home) (w : Walk) (part : ℕ) (at : Position) (found : List Datum) (v fixed last : Views) → part < h.options.parts → FixesFirst h part true v fixed → Stops h w whole (way fixed (start_of w) []) at found last → 0 < fix_count h.number (last part)
 held_by h w part at found v fixed last inside fixes (there, walk, drifted) =
     let count : fix_count h.number (last part) ≡ fix_count h.number (fixed part) = drifted_count h there last part inside drifted ∙ goes_count h w whole (way fixed (start_of w) []) (way there at found) part walk in
     let one : fix_count h.number (fixed part) ≡ fix_count h.number (v part) + 1 = turned_count h (v part) (fixed part) Fix Nothing fixes.1.here in
     omega (arith, count, one)
 
--- a walk that ended had no visit that was refused
+-- a walk that ended is a walk with no further visit
 stopped_at_end : {A : Type 0} (h : Home) (w : Walk) (g k : Gained A) (fixed last : Views → Type 0) → ((v : Views) → last v → AreLegal h.options v) → Follows fixed last (GoesGaining h w (start_of w) Over g k) → Follows fixed last (λ v u. (found : List Datum) × Stops h w whole (way v (start_of w) []) Over found u)
 stopped_at_end h w g k fixed last legal goes v b =
     let t = goes v b in (t.0, t.1, (t.2.0, (t.0, t.2.1, drifts_nowhere h t.0 (legal t.0 t.1))))
@@ -43,7 +43,7 @@ held_own (Err y) h w part own g k before fixed last inside seen legal fixes goes
     let t = stops f.0 f.1 in
     (t.0, t.1, held_by h w part t.2.0 t.2.1 s.0 f.0 t.0 inside (subst (λ (b : Bool). FixesFirst h part b s.0 f.0) is_own f.2) t.2.2))
 
--- to its end
+-- a walk through one part to its end
 pub selects : {A : Type 0} (h : Home) (w : Walk) (part : ℕ) (own : Bool) (g k : Gained A) (before fixed last now : Views → Type 0) → w.from ≡ part → ((v : Views) → last v → AreLegal h.options v) → Follows before fixed (FixesFirst h part own) → Follows fixed last (GoesGaining h w (start_of w) Over g k) → Follows last now (ChangesFix h Unfix part own) → Follows before now (SelectsGaining h w g k)
 selects h w part own g k before fixed last now from legal fixes goes releases v b =
     let f = fixes v b in
@@ -65,7 +65,7 @@ selects h w part own g k before fixed last now from legal fixes goes releases v 
       ),
     )
 
--- and where it was refused
+-- a walk through one part that failed
 pub ceases : {A : Type 0} (h : Home) (w : Walk) (part : ℕ) (own : Bool) (g k : Gained A) (before fixed last now : Views → Type 0) → w.from ≡ part → Follows before fixed (FixesFirst h part own) → Follows fixed last (StopsGaining h w (start_of w) g k) → Follows last now (ChangesFix h Unfix part own) → Follows before now (CeasesGaining h w g k)
 ceases h w part own g k before fixed last now from fixes stops releases v b =
     let f = fixes v b in

@@ -32,7 +32,7 @@ use Rattle.parallel_select.specs.Workers.{EachTallied}
 use Rattle.parallel_select.proofs.JoinLemmas.{counts_joined, some_parts}
 use Rattle.parallel_select.proofs.WalkLemmas.{part_is_walk}
 
--- where nothing answers true, nothing is taken out
+-- if the query returns true for no object, none is removed
 none_taken : (test : Datum → Bool) (ts : List Datum) → All (λ t. test t ≡ false) ts → filter (λ t. not (test t)) ts ≡ ts
 none_taken test [] none = refl
 none_taken test (t ∷ ts) none =
@@ -80,7 +80,7 @@ module _ {A : Type 0} (o : Options) (numbers : ℕ → ℕ) (q : Query A) (worke
   legal : (part : ℕ) → part < o.parts → AreLegal o (ws.now part)
   legal part within other below = ((f.within part within).1 other below).2
 
-  -- no object of the key is answered
+  -- no object of the key is answered true
   unanswered : (k : Datum) (place : ℕ) → ((t : Datum) → IsTrue (is_object (settings_of o) t) → key_of (settings_of o) t ≡ k → answer_of q.code t ≡ None) → All (λ t. is_true q.code t ≡ false) (part_content_at o ws k place)
   unanswered k place none n d within =
       let t = get_or (part_content_at o ws k place) n d in

@@ -1,4 +1,4 @@
--- What was gathered of one part after the other, as of all of them: for any marks, each of a key that stands in a part.
+-- What was gathered from one part after the other, seen as gathered from all: for any marks, each of a key in a part.
 use Rattle.std.proofs.Common.{zero, suc, ◌≡◌, ◌≢◌, ℕ, ◌+◌, ◌<◌, ◌≤◌, ◌⊎◌, inl, inr, refl, ap, sym, subst, ◌∙◌, arith, List, [], ◌∷◌, ◌++◌}
 use Rattle.std.specs.Prelude.{Bool, true, false, All, AllPairs, Contains, map, flat_map, nat_lt}
 use Rattle.std.proofs.lemmas.Bool.{ltb-true, ltb-false}
@@ -20,14 +20,14 @@ pairs_append R (x ∷ xs) ys front rest across =
     (All-append (R x) xs ys (pairs_head R x xs front) (All-head (λ z. All (R z) ys) x xs across))
     (pairs_append R xs ys (pairs_tail R x xs front) rest (All-tail (λ z. All (R z) ys) x xs across))
 
--- what was gained of the parts below one, part by part
+-- what was gained from the first parts, part by part
 abbrev pub gained_below : {X : Type 0} → (ℕ → List X) → ℕ → List X
 gained_below gained zero = []
 gained_below gained (suc part) = gained_below gained part ++ gained part
 
 module _ {M K X : Type 0} (key : M → K) (part : K → ℕ) (Q : M → Type 0) (value : M → List X) (R : K → Type 0) where
-  -- Marks of the parts from one on, up to another: of distinct keys, in the order of the parts, and what was found is
-  -- theirs; each other key there is silent.
+  -- Marks of the parts from one on, up to another: of distinct keys, in the order of the parts. What was found is what
+  -- they found, and each other key of these parts is silent.
   pub record Stretch (from to : ℕ) (found : List X) : Type 0 where
     pub marks : List M
     pub apart : AllPairs (λ l m. key l ≢ key m) marks
@@ -56,7 +56,7 @@ module _ {M K X : Type 0} (key : M → K) (part : K → ℕ) (Q : M → Type 0) 
   met_second k xs ys (inl there) = inl (subst (λ ks. Contains ks k) (sym (map-append key xs ys)) (Contains-append_right (map key xs) (map key ys) k there))
   met_second k xs ys (inr still) = inr still
 
-  -- two that meet
+  -- two adjacent stretches are one
   both : (from at to : ℕ) (xs ys : List X) → from ≤ at → at ≤ to → Stretch from at xs → Stretch at to ys → Stretch from to (xs ++ ys)
   both from at to xs ys low high a b = record {
     marks = a.marks ++ b.marks;
@@ -80,7 +80,7 @@ module _ {M K X : Type 0} (key : M → K) (part : K → ℕ) (Q : M → Type 0) 
       of k true is from_low to_high = met_first k a.marks b.marks (a.silent k from_low (ltb-true (part k) at is))
       of k false is from_low to_high = met_second k a.marks b.marks (b.silent k (ltb-false (part k) at is) to_high)
 
-  -- all parts below one
+  -- the stretches of the first parts are one
   pub stretch_below : (parts : ℕ) (gained : ℕ → List X) → ((p : ℕ) → p < parts → Stretch p (p + 1) (gained p)) → (count : ℕ) → count ≤ parts → Stretch 0 count (gained_below gained count)
   stretch_below parts gained each zero inside = none 0
   stretch_below parts gained each (suc count) inside =

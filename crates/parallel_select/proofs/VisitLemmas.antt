@@ -1,4 +1,4 @@
--- What visits tell.
+-- What visits return.
 use Rattle.std.proofs.Common.{◌≡◌, ℕ, refl, IsTrue, Some}
 use Rattle.std.specs.Prelude.{Bool, true, false, ◌||◌}
 use Rattle.mcode.specs.Program.{Program}
@@ -23,7 +23,7 @@ or_none : (b : Bool) → (b || false) ≡ true → b ≡ true
 or_none true h = refl
 or_none false h = h
 
--- an answer that tells what is gained
+-- an answer returns what can be gained
 abbrev tells : {A : Type 0} → Gained A → Answer → Bool
 tells g (Replied said) = is_told g said
 tells g (Refused refusal) = false
@@ -40,7 +40,7 @@ told_or_refused (gained.Count count) asking.Answers fits o s n p scope wanted = 
 told_or_refused (gained.Answers answers) asking.Counts fits o s n p scope wanted = cc
 told_or_refused (gained.Answers answers) asking.Deletes fits o s n p scope wanted = cc
 
--- a visit that was answered tells what is gained
+-- a visit that was not refused returns what can be gained
 pub visit_told : {A : Type 0} (h : Home) (part : ℕ) (a : Asking) (g : Gained A) (p : Program) (scope : Scope) (wanted : ℕ) (said : Said) (before now : Views → Type 0) → IsFor a g → ∥ ((v : Views) × before v) ∥₁ → Follows before now (Turned h part (Visit (purpose_of a) p scope wanted) (Some (Replied said))) → IsTrue (is_told g said)
 visit_told h part a g p scope wanted said before now fits seen follows =
     or_none (is_told g said) (answered_so (λ answer. tells g answer || is_refused answer) h part (Visit (purpose_of a) p scope wanted) (Replied said) before now seen follows (λ s. told_or_refused g a fits (settings_of h.options) s h.number p scope wanted))

@@ -27,7 +27,7 @@ plan_differs : (p : Datum → Bool) (w : Walk) (plan : Option (List Datum)) → 
 plan_differs p w None visited = tt
 plan_differs p w (Some ks) visited = distinct_filter p ks visited.0
 
--- a key of the walk's parts stands in its one part
+-- a key of the walk's parts is in its one part
 pub in_part : (options : Options) (part : ℕ) (k : Datum) → (nat_le part (part_of (settings_of options) k) && nat_lt (part_of (settings_of options) k) (part + 1)) ≡ true → stands_in options part k ≡ true
 in_part options part k inside =
     let two = and_parts (nat_le part (part_of (settings_of options) k)) (nat_lt (part_of (settings_of options) k) (part + 1)) inside in
@@ -41,7 +41,7 @@ plan_silent h purpose q part (Some ks) t visited object inside other =
     let k = key_of (settings_of h.options) t in
     visited.1 t k (there_is (field_of h.options.keypos t) object) (unnamed (stands_in h.options part) k ks (in_part h.options part k inside) other)
 
--- it is a walk
+-- the walk of one part is a walk of the session
 pub part_is_walk : {A : Type 0} (h : Home) (purpose : Purpose) (q : Query A) (part : ℕ) → (0 < h.options.parts) × (h.number < h.options.sessions) → part < h.options.parts → IsWalk (part_walk h purpose q part)
 part_is_walk h purpose q part fits inside =
     let kept = q.kept h.options.keypos (is_ordered h.options.kind) in
@@ -61,7 +61,7 @@ starts_there w part plan from to =
 pub unnamed_plan : (options : Options) (part : ℕ) (plan : Option (List Datum)) → plan ≡ None → plan_in options part plan ≡ None
 unnamed_plan options part plan none = ap (plan_in options part) none
 
--- behind its one part a walk is at its end
+-- after its one part a walk is at its end
 pub ends_there : (w : Walk) (part : ℕ) (cursor next : Option Cursor) → w.to ≡ part + 1 → next ≡ None → next_position w (InPart part cursor) next ≡ Over
 ends_there w part cursor next to none =
     rw (none, to) (ap (λ (b : Bool). if b then InPart (part + 1) None else Over) (le-ltb (part + 1) (part + 1) (omega arith)))
@@ -70,7 +70,7 @@ some_is : (next : Option Cursor) → is_some next ≡ true → (cursor : Cursor)
 some_is None some = absurd (true≢false (sym some))
 some_is (Some cursor) some = (cursor, refl)
 
--- where its part goes on, the walk is there
+-- if its part goes on, the walk is in the part
 pub goes_on_there : (w : Walk) (part : ℕ) (cursor next : Option Cursor) → is_some next ≡ true → next_position w (InPart part cursor) next ≡ InPart part next
 goes_on_there w part cursor next more = let s = some_is next more in rw s.1 refl
 

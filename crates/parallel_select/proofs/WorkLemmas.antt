@@ -1,4 +1,4 @@
--- The walks of one worker, part behind part.
+-- The walks of one worker, part after part.
 use Rattle.std.proofs.Common.{zero, suc, ◌≡◌, ℕ, ◌+◌, ◌<◌, inl, inr, refl, ap, sym, subst, ◌∙◌, arith, List, [], ◌∷◌, ◌++◌, length}
 use Rattle.std.specs.Prelude.{Bool, true, false, IsTrue, MatchBool, ◌==◌, if◌then◌else◌, min}
 use Rattle.std.proofs.lemmas.Bool.{eq-eqb, eqb-true}
@@ -25,7 +25,7 @@ passes_by h walk own part xs ys v u same = of (own part) refl
     of true is p = subst (λ (zs : List Datum). Selects h (walk part) Over zs v u) (same is) p
     of false is p = p
 
--- what matters of what is gained is that of the worker's own parts
+-- only what is gained from the worker's own parts matters
 pub works_by : (h : Home) (walk : ℕ → Walk) (own : ℕ → Bool) (gained others : ℕ → List Datum) (v : Views) (n : ℕ) (u : Views) → ((part : ℕ) → part < n → IsTrue (own part) → gained part ≡ others part) → Works h walk own gained v n u → Works h walk own others v n u
 works_by h walk own gained others v n u same begins = begins
 works_by h walk own gained others v n u same (passes {part = part} {u = x} {w = y} works pass) =
@@ -52,7 +52,7 @@ works_more h walk own xs ys part v u long works =
 pub works_nothing : (h : Home) (walk : ℕ → Walk) (own : ℕ → Bool) (gained : ℕ → List Datum) (now : Views → Type 0) → Follows now now (λ v u. Works h walk own gained v 0 u)
 works_nothing h walk own gained now v b = (v, b, begins)
 
--- one part more
+-- one more part
 pub works_once : (h : Home) (walk : ℕ → Walk) (own : ℕ → Bool) (xs : List (List Datum)) (ys : List Datum) (part : ℕ) (before now later : Views → Type 0) → length xs ≡ part → Follows before now (λ v u. Works h walk own (answers_of xs) v part u) → Follows now later (Passes h walk own part ys) → Follows before later (λ v u. Works h walk own (answers_of (xs ++ ys ∷ [])) v (part + 1) u)
 works_once h walk own xs ys part before now later long so_far pass v b =
     let s = so_far v b in
@@ -63,7 +63,7 @@ works_once h walk own xs ys part before now later long so_far pass v b =
 pub broken_at_once : (h : Home) (walk : ℕ → Walk) (own : ℕ → Bool) (now : Views → Type 0) → Follows now now (Broken h walk own)
 broken_at_once h walk own now v b = (v, b, ((λ k. []), 0, inl (omega arith, begins)))
 
--- a part that was refused
+-- a part that failed
 pub works_until : (h : Home) (walk : ℕ → Walk) (own : ℕ → Bool) (xs : List (List Datum)) (part : ℕ) (before now later : Views → Type 0) → length xs ≡ part → part < h.options.parts → Follows before now (λ v u. Works h walk own (answers_of xs) v part u) → Follows now later (λ v u. (found : List Datum) × CeasesAt h walk own part found v u) → Follows before later (Broken h walk own)
 works_until h walk own xs part before now later long inside so_far ceases v b =
     let s = so_far v b in
@@ -82,14 +82,14 @@ works_until h walk own xs part before now later long inside so_far ceases v b =
       ),
     )
 
--- the end is no want of memory, but the whole may be refused later
+-- a worker that came to its end counts as one of a selection that may fail later
 pub broken_at_end : (h : Home) (walk : ℕ → Walk) (own : ℕ → Bool) (gained : ℕ → List Datum) (before now : Views → Type 0) → Follows before now (λ v u. Works h walk own gained v h.options.parts u) → Follows before now (Broken h walk own)
 broken_at_end h walk own gained before now works v b =
     let s = works v b in (s.0, s.1, (gained, h.options.parts, inl (omega arith, s.2)))
 
 -- ---- counts
 
--- the same but at one part
+-- the same gains except at one part
 abbrev pub gained_at : ℕ → List Datum → (ℕ → List Datum) → ℕ → List Datum
 gained_at part found gained k = if k == part then found else gained k
 
@@ -163,14 +163,14 @@ counts_once h walk own g k part before now later so_far pass v b =
     let t = pass s.0 s.1 in
     (t.0, t.1, counts_on h walk own g k part v s.0 t.0 s.2 t.2)
 
--- the number at the end
+-- the count at the end
 pub counted : {A : Type 0} (h : Home) (walk : ℕ → Walk) (own : ℕ → Bool) (g : Gained A) (part count : ℕ) (before now : Views → Type 0) → part ≡ h.options.parts → ((all : List Datum) → IsCounted g all → count ≡ min (length all) most_counted) → Follows before now (CountsSoFar h walk own g part) → Follows before now (Counted h walk own count)
 counted h walk own g part count before now end is so_far v b =
     let s = so_far v b in
     let x = s.2 in
     (s.0, s.1, (x.gained, subst (λ (n : ℕ). Works h walk own x.gained v n s.0) end x.works, is x.all (counted_too g x.all x.is_all) ∙ ap (λ (n : ℕ). min n most_counted) (x.number ∙ ap (number_gained own x.gained) end)))
 
--- and where a part was refused
+-- the count if a part failed
 pub broken_off : {A : Type 0} (h : Home) (walk : ℕ → Walk) (own : ℕ → Bool) (g k : Gained A) (part count : ℕ) (before now later : Views → Type 0) → part < h.options.parts → ((all : List Datum) → IsCounted k all → count ≡ min (length all) most_counted) → Follows before now (CountsSoFar h walk own g part) → Follows now later (CeasesCounting h walk own part g k) → Follows before later (BrokenAt h walk own count)
 broken_off h walk own g k part count before now later inside is so_far ceases v b =
     let s = so_far v b in

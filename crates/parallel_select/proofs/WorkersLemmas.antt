@@ -1,4 +1,4 @@
--- Workers side by side.
+-- Workers in parallel.
 use Rattle.std.proofs.Common.{zero, suc, ◌≡◌, ℕ, ◌+◌, ◌<◌, ◌≤◌, inl, refl, ap, sym, subst, ◌∙◌, arith, List, [], ◌∷◌, length}
 use Rattle.std.specs.Prelude.{All, flat_map, get_or, map, ◌++◌, Bool, true, false, ◌||◌, if◌then◌else◌, min, Result, Ok, Err, IfOk, IfErr, MatchResult}
 use Rattle.std.proofs.lemmas.Bool.{eqb-true, true≢false}
@@ -16,7 +16,7 @@ use Rattle.parallel_select.specs.Workers.{AreOfOneTable, Each, EachAdding, Did, 
 use Rattle.parallel_select.proofs.WorkLemmas.{works_by, broken_at_end}
 
 module _ {T : Type 0} where
-  -- what holds of each, told as something else
+  -- what holds of each member, with a property replaced by one that it implies
   pub each_by : (P Q : ℕ → T → T → Type 0) (number : ℕ) (olds news : List T) → ((n : ℕ) (old new : T) → number ≤ n → P n old new → Q n old new) → Each P number olds news → Each Q number olds news
   each_by P Q number [] [] by each = tt
   each_by P Q number (old ∷ olds) (new ∷ news) by each =
@@ -39,7 +39,7 @@ module _ {T : Type 0} where
     abbrev answered : List (List Datum) → ℕ → T → T → Type 0
     answered lists n = Did is_ready home sees (λ h v u. Works h (part_walk h Answers query) (is_share workers n) (answers_of lists) v h.options.parts u)
 
-    -- answers that stand in other lists too
+    -- a worker's answers are in any lists that agree at its own parts
     answered_by : (n parts : ℕ) (lists others : List (List Datum)) (old new : T) → (home old).options.parts ≡ parts → ((part : ℕ) → part < parts → is_share workers n part ≡ true → answers_of lists part ≡ answers_of others part) → answered lists n old new → answered others n old new
     answered_by n parts lists others old new are same did =
         did_by (λ h v u. Works h (part_walk h Answers query) (is_share workers n) (answers_of lists) v h.options.parts u) (λ h v u. Works h (part_walk h Answers query) (is_share workers n) (answers_of others) v h.options.parts u) old new (λ v u works. works_by (home old) (part_walk (home old) Answers query) (is_share workers n) (answers_of lists) (answers_of others) v (home old).options.parts u (λ part below mine. same part (omega (arith, are, below)) mine) works) did
@@ -48,7 +48,7 @@ module _ {T : Type 0} where
     one_share n number part above mine =
         by_test (is_share workers number part) _ (λ also. let a = eqb-true _ n mine in let b = eqb-true _ number also in absurd (omega (arith, a, b, above))) (λ other. other)
 
-    -- the first one and the others
+    -- the answers of the first member and of the others, joined
     pub both_answer : {X E : Type 0} (given : X → List (List Datum)) (number parts : ℕ) (own others : Result X E) (lists : List (List Datum)) (old new : T) (olds news : List T)
         → (home old).options.parts ≡ parts → length lists ≡ parts
         → IfOk own (λ mine. (length (given mine) ≡ (home old).options.parts) × Did is_ready home sees (λ h v u. Works h (part_walk h Answers query) (is_share workers number) (answers_of (given mine)) v h.options.parts u) old new)
@@ -88,7 +88,7 @@ module _ {T : Type 0} where
     others_broken given number parts (Ok theirs) olds news done refused = rest_broken number (given theirs) olds news done.1
     others_broken given number parts (Err e) olds news done refused = refused
 
-    -- and where one was refused
+    -- the first member and the others, if one of them failed
     pub both_broken : {X E : Type 0} (given : X → List (List Datum)) (number parts : ℕ) (own others : Result X E) (old new : T) (olds news : List T)
         → IfOk own (λ mine. (length (given mine) ≡ (home old).options.parts) × Did is_ready home sees (λ h v u. Works h (part_walk h Answers query) (is_share workers number) (answers_of (given mine)) v h.options.parts u) old new)
         → IfErr own (λ _. Did is_ready home sees (λ h. Broken h (part_walk h Answers query) (is_share workers number)) old new)
@@ -177,12 +177,12 @@ same_parts home (x ∷ xs) d parts one some is zero e inside = sym is
 same_parts home (x ∷ xs) d parts one some is (suc k) e inside =
     ap (λ (h : Home). h.options.parts) (mapped_there home (home e) xs k e (omega (arith, inside))) ∙ ap (λ (o : Options). o.parts) (one k (home e) (mapped home xs k (omega (arith, inside)))).0 ∙ sym is
 
--- lists of lists, one behind the other
+-- joining the lists of a list
 pub flat_lists : {X Y : Type 0} (given : X → List Y) (xs : List X) → flat_map given xs ≡ flat_map (λ list. list) (map given xs)
 flat_lists given [] = refl
 flat_lists given (x ∷ xs) = ap (λ ys. given x ++ ys) (flat_lists given xs)
 
--- each of some, and each of others behind them
+-- what holds of each of two lists of members holds of each of the joined list
 each_append : {T : Type 0} (P : ℕ → T → T → Type 0) (number later : ℕ) (xs ys us vs : List T) → later ≡ number + length xs → Each P number xs ys → Each P later us vs → Each P number (xs ++ us) (ys ++ vs)
 each_append P number later [] [] us vs is first rest = subst (λ n. Each P n us vs) (is ∙ plus_none number) rest
   where
@@ -220,7 +220,7 @@ module _ {T A X E : Type 0} (is_ready : T → Type 0) (home : T → Home) (sees 
   one_gathered number (Err e) olds news old new olds_are news_are long ready same done refused =
       rw (olds_are, news_are) (record { done = tt; refused = ((ready, same, refused), tt) })
 
-  -- as many lists as parts
+  -- there are as many lists as parts
   pub one_long : (number parts : ℕ) (own : Result X E) (ones lasts : List T) → length ones ≡ 1 → All (λ x. (home x).options.parts ≡ parts) ones
       → IfOk own (λ mine. EachAnswers is_ready home sees query workers (given mine) number ones lasts) → IfOk own (λ mine. length (given mine) ≡ parts)
   one_long number parts (Ok mine) (x ∷ xs) (y ∷ ys) single are first = first.0.0 ∙ are 0 x (omega arith)

@@ -1,5 +1,4 @@
--- What the walks of a worker mean: for each key of its parts once, what the query answers on the key's objects at one
--- moment.
+-- What the walks of a worker mean: for each key of its parts once, what the query answers for the key's objects at one moment.
 use Rattle.std.specs.Prelude.{ℕ, ◌<◌, Bool, IsTrue, List, [], ◌∷◌}
 use Rattle.term_core.specs.Datum.{Datum}
 use Rattle.part_core.specs.Acts.{Purpose}
@@ -21,7 +20,8 @@ pub record IsAnsweredWithin (w : Walk) (gained : List Datum) (v u : Views) : Typ
   pub answer : IsAnswer w (span before after ∷ []) u gained
   pub once : IsOnce w (span before after ∷ []) u (is_done w Over)
 
--- the same of a walk that was refused for want of memory on its way, and the keys that were done until then
+-- within what a worker did, a walk that ran out of memory on its way: it covered each key once, and what it gained is
+-- gathered for the keys that were done until then, in what the worker sees at its end
 pub record IsGatheredWithin (w : Walk) (at : Position) (gained : List Datum) (v u : Views) : Type 0 where
   pub before : Views
   pub after : Views
@@ -30,13 +30,13 @@ pub record IsGatheredWithin (w : Walk) (at : Position) (gained : List Datum) (v 
   pub gathers : Gathers w (span before after ∷ []) u (is_done w at) gained
   pub once : IsOnce w (span before after ∷ []) u (is_done w at)
 
--- a worker's session is one of its table's, and what the parts did before is legal
+-- a worker's session is one of its table's, and the histories of the parts before are legal
 pub record IsWell (h : Home) (v : Views) : Type 0 where
   pub parts : 0 < h.options.parts
   pub number : h.number < h.options.sessions
   pub legal : AreLegal h.options v
 
--- Of each of a worker's own parts below one, what was gained is the answer of the part's walk.
+-- For each of a worker's own parts below a number, what was gained is the answer of the part's walk.
 abbrev pub PartsAreAnswered : Type 0 → Type 0
 PartsAreAnswered A =
     (h : Home) (purpose : Purpose) (q : Query A) (own : ℕ → Bool) (gained : ℕ → List Datum) (count : ℕ) (v u : Views)
@@ -44,8 +44,8 @@ PartsAreAnswered A =
     → (part : ℕ) → part < count → part < h.options.parts → IsTrue (own part)
     → IsAnsweredWithin (part_walk h purpose q part) (gained part) v u
 
--- Of a worker that was refused for want of memory, so it is of its own parts below that one, and of this one for the
--- keys that were done.
+-- If a worker ran out of memory in a part, what was gained from each of its own parts below this one is the answer of
+-- the part's walk. What was gained from this one is gathered for the keys that were done.
 abbrev pub BrokenPartsAreGathered : Type 0 → Type 0
 BrokenPartsAreGathered A =
     (h : Home) (purpose : Purpose) (q : Query A) (own : ℕ → Bool) (gained : ℕ → List Datum) (last : ℕ) (v u : Views)

@@ -1,11 +1,11 @@
-//! Why a selection by several workers is refused.
+//! Why a selection by several workers is rejected.
 use std::alloc::AllocError;
 use thiserror::Error;
 
-/// Why a selection by several workers is refused.
+/// Why a selection by several workers is rejected.
 #[derive(Clone, Copy, Debug, PartialEq, Eq, Error)]
 pub enum SelectFault {
-    /// No memory was given.
+    /// An allocation failed.
     #[error("out of memory")]
     Memory,
     /// There are no members, or more than 16.
@@ -28,7 +28,7 @@ impl SelectFault {
     ghost use Rattle.std.specs.Prelude.{◌≡◌};
     ghost use Rattle.parallel_select.specs.Faults.{select_fault_number};
 
-    /// The number that the fault has in what programs print.
+    /// Returns the error code that programs print: 1 for out of memory, 60 for bad options.
     pub const fn number(self) -> u8
         ensures { result ≡ select_fault_number self }
     {

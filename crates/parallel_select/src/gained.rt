@@ -12,14 +12,14 @@ use std::alloc::{AllocError, Allocator, Global};
 use term_core::Term;
 use verifier::Verified;
 
-/// What visits are for.
+/// The purpose of visits.
 #[derive(Clone, Copy)]
 pub enum Asking {
-    /// To answer objects.
+    /// To return answers.
     Answers,
-    /// To count those that answer true.
+    /// To count the objects for which the query returns `true`.
     Counts,
-    /// To delete these.
+    /// To delete the objects for which the query returns `true`.
     Deletes,
 }
 
@@ -32,7 +32,7 @@ pub enum Gained<A: Allocator = Global> {
     Count(u64),
 }
 
-/// A visit as an operation at a part.
+/// Returns a visit as an operation at a part, with a target of 2^64 - 1.
 pub(crate) fn visit_op<'q, A: Allocator>(
     asking: Asking,
     code: &'q Verified<A>,
@@ -52,7 +52,7 @@ pub(crate) fn visit_op<'q, A: Allocator>(
     }
 }
 
-/// Two counts together, at most 2^64 - 1.
+/// Returns the sum of two counts, at most 2^64 - 1.
 pub(crate) fn capped_sum(total: u64, count: u64) -> u64
     ensures { result ≡ min (total + count) most_counted }
 {
@@ -68,7 +68,7 @@ impl<A: Allocator> Gained<A> {
     ghost use Rattle.part_core.specs.Replies.{most_counted};
     ghost use Rattle.parallel_select.specs.Gained.{IsCounted, IsGained, TakesIn, is_count, is_told};
 
-    /// Puts answers behind those before.
+    /// Appends answers to those before. Fails if an allocation fails; then nothing is known of the answers.
     fn hold(&mut self, found: Vec<Term<A>, A>) -> Result<(), AllocError>
         requires { IsTrue (is_told self.old (Found found.items None)) }
         ensures taken { OnOk result (TakesIn (Found found.items None) self.old self.new) }
@@ -84,7 +84,7 @@ impl<A: Allocator> Gained<A> {
         }
     }
 
-    /// Adds a count.
+    /// Adds a number to the count, up to 2^64 - 1.
     fn add(&mut self, count: u64)
         requires { IsTrue (is_told self.old (Counted count None)) }
         ensures taken { TakesIn (Counted count None) self.old self.new }
@@ -96,7 +96,8 @@ impl<A: Allocator> Gained<A> {
         }
     }
 
-    /// Takes in what a visit told, and answers where the walk goes on.
+    /// Adds what a visit returned, and returns where the walk goes on. Fails if an allocation fails; then nothing is
+    /// known of the answers.
     pub(crate) fn take_in(&mut self, reply: Reply<A>) -> Result<Option<Cursor<A>>, AllocError>
         requires { IsTrue (is_told self.old (said_of reply)) }
         ensures kind { is_count self.new ≡ is_count self.old }
@@ -117,7 +118,7 @@ impl<A: Allocator> Gained<A> {
         }
     }
 
-    /// Nothing, where objects are counted.
+    /// Returns a count of 0.
     pub(crate) fn nothing_counted() -> Self
         ensures none { IsGained result [] }
         ensures counts { is_count result ≡ true }
@@ -125,7 +126,7 @@ impl<A: Allocator> Gained<A> {
         Gained::Count(0)
     }
 
-    /// How many were counted.
+    /// Returns how many objects were counted or deleted, at most 2^64 - 1.
     pub(crate) fn count(&self) -> u64
         requires { is_count self.now ≡ true }
         ensures { (all : List Datum) → IsCounted self.now all → result ≡ min (length all) most_counted }
@@ -136,7 +137,7 @@ impl<A: Allocator> Gained<A> {
         }
     }
 
-    /// No answers.
+    /// Returns no answers.
     pub(crate) fn no_answers(alloc: A) -> Self
         ensures none { IsGained result [] }
         ensures answers { is_count result ≡ false }
@@ -144,7 +145,7 @@ impl<A: Allocator> Gained<A> {
         Gained::Answers(Vec::new(alloc))
     }
 
-    /// The answers.
+    /// Returns the answers.
     pub(crate) fn into_answers(self) -> Vec<Term<A>, A>
         requires { is_count self ≡ false }
         ensures { IsGained self result.items }

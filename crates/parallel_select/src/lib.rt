@@ -1,12 +1,12 @@
 //! Selection by several threads.
 //!
 //! The contracts: `select_parts`, `count_parts` and `delete_parts` make one walk through each part of a table, each by
-//! the session of one worker (`specs/Parts.antt`), and over every interleaving what a walk gains is its answer
-//! (`specs/Laws.antt`). `run_list` of `parallel_list`, the answers on a list of objects, is passed on.
+//! the session of one worker (`specs/Parts.antt`). In every interleaving, what a walk gains is its answer
+//! (`specs/Laws.antt`). `run_list` of `parallel_list`, the answers for a list of objects, is re-exported.
 //!
-//! - `gained`: what walks gain; `visits`: the visits of a walk through one part;
-//!   `part`: such a walk with the fix of its own; `worker`: the walks of one worker; `workers`: workers side by side;
-//!   `selecting`: the calls; `fault`: their refusals; `laws`: what the walks mean.
+//! - `gained`: what walks gain; `visits`: the visits of a walk through one part; `part`: such a walk with its own fix;
+//!   `worker`: the walks of one worker; `workers`: workers in parallel; `selecting`: the public functions; `fault`:
+//!   their errors; `laws`: what the walks mean.
 #![tactic(auto)]
 
 mod fault;

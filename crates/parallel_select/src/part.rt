@@ -1,4 +1,4 @@
-//! Walks through one part, each with the fix of its own.
+//! Walks through one part, each with its own fix.
 ghost use Rattle.std.specs.Prelude.{ℕ, ◌≡◌, ◌<◌, List, IsTrue, IfOk, IfErr, ◌++◌};
 ghost use Rattle.term_core.specs.Datum.{Datum};
 ghost use Rattle.part_core.specs.Acts.Act.{Fix, Unfix};
@@ -15,7 +15,7 @@ use std::alloc::{AllocError, Allocator};
 use tables::{Turns, fix_at, unfix_at};
 use walks::Query;
 
-/// Fixes a part of a set that the session doesn't fix, and tells whether it did.
+/// Fixes a part of a set or bag that the session doesn't fix, and returns whether it did.
 fn fix_first<A: Allocator, T: Turns<A>>(turns: &mut T, part: u8) -> bool
     requires ready { T.is_ready turns.old }
     requires part { part < (T.home turns.old).options.parts }
@@ -33,7 +33,7 @@ fn fix_first<A: Allocator, T: Turns<A>>(turns: &mut T, part: u8) -> bool
     false
 }
 
-/// Releases the fix of a part, if it was fixed first.
+/// Releases the fix of a part if it was fixed first.
 fn release<A: Allocator, T: Turns<A>>(turns: &mut T, part: u8, own: bool)
     requires ready { T.is_ready turns.old }
     requires part { part < (T.home turns.old).options.parts }
@@ -47,8 +47,9 @@ fn release<A: Allocator, T: Turns<A>>(turns: &mut T, part: u8, own: bool)
     }
 }
 
-/// Walks through a part, with a fix of its own if the session doesn't fix the part. That is released at the end, also
-/// where the walk is refused.
+/// Walks through a part, and fixes the part meanwhile if it is one of a set or bag that the session doesn't fix. The
+/// fix is released at the end, also if the walk fails. Fails if an allocation fails; a count in `gained` then includes
+/// what was counted.
 pub(crate) fn select_part<A: Allocator, T: Turns<A>>(
     turns: &mut T,
     query: &Query<A>,

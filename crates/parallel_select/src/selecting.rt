@@ -14,17 +14,17 @@ use tables::Turns;
 use term_core::{Refused, Term};
 use walks::Query;
 
-/// The most members that a selection has.
+/// The greatest number of members of a selection.
 pub const MOST_MEMBERS: usize = 16;
 
-/// Whether there are 1 to 16 members.
+/// Returns whether there are 1 to 16 members.
 fn are_few(count: usize) -> bool
     ensures { MatchBool result (AreFew count) (¬ (AreFew count)) }
 {
     0 < count && count <= MOST_MEMBERS
 }
 
-/// Lists of answers, one behind the other.
+/// Returns lists of answers joined into one. Fails if an allocation fails.
 fn join_lists<A: Allocator + Copy>(
     alloc: A,
     lists: Vec<Vec<Term<A>, A>, A>,
@@ -39,7 +39,7 @@ fn join_lists<A: Allocator + Copy>(
     Ok(answers)
 }
 
-/// The answers of each part, by a worker for each member.
+/// Returns the answers of each part, with a worker for each member. Fails if an allocation fails.
 fn answer_parts_of<R: Threads + Sync, A: Allocator + Copy + Send + Sync, T: Turns<A> + Send>(
     rt: &R,
     alloc: A,
@@ -65,11 +65,11 @@ fn answer_parts_of<R: Threads + Sync, A: Allocator + Copy + Send + Sync, T: Turn
     answer_each(rt, &plan, 0, members)
 }
 
-/// The answers of a query on the objects of a table, by a worker for each member, on a thread of its own: part p is the
-/// worker's of number p modulo the members. Each makes walks of its own session, one through each of its parts; a part
-/// of a set that the session doesn't fix is fixed first, and released at the walk's end, also where it is refused. The
-/// answers stand in the order of the parts. Where there aren't 1 to 16 members, it is refused before any turn; want of
-/// memory is told once all workers have ended.
+/// Returns the answers of a query for the objects of a table, in the order of the parts. There is a worker for each
+/// member, on a thread of its own: part p belongs to the worker with number p modulo the number of members. Each worker
+/// makes walks of its own session, one through each of its parts. A part of a set or bag that the session doesn't fix
+/// is fixed first, and released at the walk's end, also if it fails. If there aren't 1 to 16 members, fails with
+/// `BadOptions` before any turn. If an allocation fails, returns `Memory` after all workers have ended.
 pub fn select_parts<R: Threads + Sync, A: Allocator + Copy + Send + Sync, T: Turns<A> + Send>(
     rt: &R,
     alloc: A,
@@ -99,7 +99,7 @@ pub fn select_parts<R: Threads + Sync, A: Allocator + Copy + Send + Sync, T: Tur
     }
 }
 
-/// Counts, or deletes and counts, by a worker for each member; a refusal has the number until then.
+/// Counts, or deletes and counts, with a worker for each member. An error has the number up to then.
 fn tally_parts<R: Threads + Sync, A: Allocator + Copy + Send + Sync, T: Turns<A> + Send>(
     rt: &R,
     members: &mut [T],
@@ -134,7 +134,9 @@ fn tally_parts<R: Threads + Sync, A: Allocator + Copy + Send + Sync, T: Turns<A>
     Ok(tally.count)
 }
 
-/// How many objects of a table answer `true` to a query, at most 2^64 - 1, by workers as in `select_parts`.
+/// Returns the number of objects of a table for which a query returns `true`, at most 2^64 - 1. There is a worker for
+/// each member, on a thread of its own, with the parts and fixes of `select_parts`. Fails with `BadOptions` before any
+/// turn if there aren't 1 to 16 members, and with `Memory` if an allocation fails.
 pub fn count_parts<R: Threads + Sync, A: Allocator + Copy + Send + Sync, T: Turns<A> + Send>(
     rt: &R,
     members: &mut [T],
@@ -157,8 +159,10 @@ pub fn count_parts<R: Threads + Sync, A: Allocator + Copy + Send + Sync, T: Turn
     }
 }
 
-/// Deletes the objects of a table that answer `true` to a query, each in the turn in which it was asked, and answers
-/// how many, at most 2^64 - 1, by workers as in `select_parts`; a refusal has the number until then.
+/// Deletes the objects of a table for which a query returns `true`, and returns their number, at most 2^64 - 1. Each is
+/// deleted in the turn in which it was evaluated. There is a worker for each member, on a thread of its own, with the
+/// parts and fixes of `select_parts`. Fails with `BadOptions` before any turn if there aren't 1 to 16 members, and with
+/// `Memory` if an allocation fails. The error has the number deleted up to then, and these deletions stay.
 pub fn delete_parts<R: Threads + Sync, A: Allocator + Copy + Send + Sync, T: Turns<A> + Send>(
     rt: &R,
     members: &mut [T],

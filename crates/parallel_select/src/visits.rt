@@ -18,7 +18,8 @@ use term_core::Term;
 use walk_core::scope_from;
 use walks::Query;
 
-/// Makes one visit, and takes in what it told.
+/// Makes one visit, and adds what it returned to `gained`. Returns where the walk goes on. Fails if the visit is
+/// refused or an allocation fails.
 fn visit<A: Allocator, T: Turns<A>>(
     turns: &mut T,
     query: &Query<A>,
@@ -45,7 +46,7 @@ fn visit<A: Allocator, T: Turns<A>>(
     }
 }
 
-/// Moves a walk on, and tells whether it goes on in the part.
+/// Moves a walk on, and returns whether it goes on in the part.
 fn move_on<A: Allocator>(cursor: &mut Option<Cursor<A>>, next: Option<Cursor<A>>) -> bool
     ensures at { cursor.new ≡ next }
     ensures more { result ≡ is_some next }
@@ -55,7 +56,8 @@ fn move_on<A: Allocator>(cursor: &mut Option<Cursor<A>>, next: Option<Cursor<A>>
     more
 }
 
-/// Makes the visit of a walk through a part where it is, and tells whether the walk goes on in the part.
+/// Makes the next visit of a walk through a part, and returns whether the walk goes on in the part. Fails if the visit
+/// is refused or an allocation fails.
 fn visit_from<A: Allocator, T: Turns<A>>(
     turns: &mut T,
     query: &Query<A>,
@@ -80,7 +82,7 @@ fn visit_from<A: Allocator, T: Turns<A>>(
     Ok(move_on(cursor, next))
 }
 
-/// Makes the visits of a walk through a part that are left.
+/// Makes the visits that are left of a walk through a part. Fails if an allocation fails.
 fn visit_rest<A: Allocator, T: Turns<A>>(
     turns: &mut T,
     query: &Query<A>,
@@ -114,7 +116,7 @@ fn visit_rest<A: Allocator, T: Turns<A>>(
     Err(AllocError)
 }
 
-/// Makes the visits of a walk through a part.
+/// Makes all visits of a walk through a part. Fails if an allocation fails.
 fn visit_all<A: Allocator, T: Turns<A>>(
     turns: &mut T,
     query: &Query<A>,
@@ -140,7 +142,7 @@ fn visit_all<A: Allocator, T: Turns<A>>(
     visit_rest(turns, query, asking, part, &mut cursor, gained)
 }
 
-/// Visits one key.
+/// Makes the visit of one named key. Fails if an allocation fails.
 fn visit_key<A: Allocator, T: Turns<A>>(
     turns: &mut T,
     query: &Query<A>,
@@ -165,7 +167,7 @@ fn visit_key<A: Allocator, T: Turns<A>>(
     Ok(())
 }
 
-/// Makes the visits of a walk through the named keys of a part.
+/// Makes the visits of a walk through the named keys of a part. Fails if an allocation fails.
 fn visit_keys<A: Allocator, T: Turns<A>>(
     turns: &mut T,
     query: &Query<A>,
@@ -201,7 +203,7 @@ fn visit_keys<A: Allocator, T: Turns<A>>(
     Ok(())
 }
 
-/// Makes the visits of a walk through a part, or through the named keys that stand there.
+/// Makes the visits of a walk through a part, or through the named keys in this part. Fails if an allocation fails.
 pub(crate) fn visit_part<A: Allocator, T: Turns<A>>(
     turns: &mut T,
     query: &Query<A>,

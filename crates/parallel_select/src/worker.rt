@@ -13,7 +13,7 @@ use tables::Turns;
 use term_core::{Refused, Term};
 use walks::Query;
 
-/// The answers of a part, none of one that is another worker's.
+/// Returns the answers of a part, none if the part is another worker's. Fails if an allocation fails.
 fn answer_part<A: Allocator + Copy, T: Turns<A>>(
     alloc: A,
     query: &Query<A>,
@@ -42,7 +42,7 @@ fn answer_part<A: Allocator + Copy, T: Turns<A>>(
     }
 }
 
-/// The answers of each part, none of those that are other workers'.
+/// Returns the answers of each part, none for those of other workers. Fails if an allocation fails.
 pub(crate) fn answer_parts<A: Allocator + Copy, T: Turns<A>>(
     alloc: A,
     query: &Query<A>,
@@ -75,7 +75,7 @@ pub(crate) fn answer_parts<A: Allocator + Copy, T: Turns<A>>(
     Ok(lists)
 }
 
-/// Counts or deletes in a part, if it is the worker's own.
+/// Counts or deletes in a part if it is the worker's own. Fails if an allocation fails.
 fn count_part<A: Allocator, T: Turns<A>>(
     query: &Query<A>,
     asking: Asking,
@@ -103,7 +103,8 @@ fn count_part<A: Allocator, T: Turns<A>>(
     select_part(turns, query, asking, part, gained)
 }
 
-/// How many objects of the parts answer true that are the worker's own; a refusal has the number until then.
+/// Counts or deletes in the worker's own parts, and returns the number, at most 2^64 - 1. If an allocation fails, the
+/// error has the number up to then.
 pub(crate) fn count_parts_of<A: Allocator, T: Turns<A>>(
     query: &Query<A>,
     asking: Asking,

@@ -1,4 +1,4 @@
-//! Workers side by side, each on a thread of its own, and what they come to together.
+//! Workers in parallel, each on a thread of its own, and their joint result.
 ghost use Rattle.std.specs.Prelude.{ℕ, true, ◌∷◌, ◌++◌, ◌≡◌, ◌≢◌, if◌then◌else◌, ◌<◌, ◌≤◌, ◌+◌, ◌||◌, false, min, All, IfOk, IfErr, List, length, map, vec_items};
 ghost use Rattle.std.specs.Thread.{IsSync};
 ghost use Rattle.part_core.specs.Acts.Purpose.{Answers};
@@ -17,17 +17,17 @@ use tables::Turns;
 use term_core::{Refused, Term};
 use walks::Query;
 
-/// What a worker counted, and whether it was refused for want of memory.
+/// What a worker counted, and whether it ran out of memory.
 #[derive(Clone, Copy)]
 pub(crate) struct Tally {
-    /// How many objects, at most 2^64 - 1.
+    /// The number of objects, at most 2^64 - 1.
     pub count: u64,
-    /// The worker didn't come to its end.
+    /// The worker didn't reach its end.
     pub refused: bool,
 }
 
-/// Lets one worker count.
-// The handle isn't used: what a closure captures is found to be sendable where its type parameters are among that.
+/// Makes one worker count or delete in its parts.
+// The handle isn't used: a closure is found to be sendable if the type parameters of what it captures are.
 fn count_own<R, A: Allocator, T: Turns<A>>(
     _rt: &R,
     query: &Query<A>,
@@ -56,7 +56,7 @@ fn count_own<R, A: Allocator, T: Turns<A>>(
     }
 }
 
-/// What two of them come to.
+/// Returns the joint result of two tallies: the sum of the counts, at most 2^64 - 1, refused if one was.
 fn together(one: Tally, others: Tally) -> Tally
     ensures { (result.count ≡ min (one.count + others.count) most_counted) × (result.refused ≡ (one.refused || others.refused)) }
 {
@@ -66,8 +66,8 @@ fn together(one: Tally, others: Tally) -> Tally
     }
 }
 
-/// Lets one member count in a thread of its own, and the others each in another.
-// A function of its own, so that what the closures require is what it is given.
+/// Makes one member count on a thread of its own, and the others each on another.
+// A separate function, so that the requirements of the closures are its own.
 #[cycle(tallies)]
 fn tally_both<R: Threads + Sync, A: Allocator + Copy + Send + Sync, T: Turns<A> + Send>(
     rt: &R,
@@ -98,7 +98,7 @@ fn tally_both<R: Threads + Sync, A: Allocator + Copy + Send + Sync, T: Turns<A> 
     together(one, others)
 }
 
-/// Lets each member count, each in a thread of its own, the first one as the worker of this number.
+/// Makes each member count, each on a thread of its own. The first member is the worker with this number.
 #[cycle(tallies)]
 pub(crate) fn tally_each<R: Threads + Sync, A: Allocator + Copy + Send + Sync, T: Turns<A> + Send>(
     rt: &R,
@@ -122,7 +122,7 @@ pub(crate) fn tally_each<R: Threads + Sync, A: Allocator + Copy + Send + Sync, T
     }
 }
 
-/// For each part no answers.
+/// Returns an empty list of answers for each part. Fails if an allocation fails.
 fn no_lists<A: Allocator + Copy>(alloc: A, parts: u8) -> Result<Vec<Vec<Term<A>, A>, A>, AllocError>
     ensures { IfOk result (λ lists. length (map vec_items lists.items) ≡ parts) }
 {
@@ -133,7 +133,7 @@ fn no_lists<A: Allocator + Copy>(alloc: A, parts: u8) -> Result<Vec<Vec<Term<A>,
     Ok(lists)
 }
 
-/// Puts one worker's answers at a part in the place of others', if the part is its own.
+/// Exchanges one worker's answers at a part with those of others if the part is its own.
 fn put_one<A: Allocator>(
     mine: bool,
     place: usize,
@@ -173,7 +173,7 @@ fn put_own<A: Allocator>(
     }
 }
 
-/// The answers of two of them, those of the first at its own parts.
+/// Returns the answers of two sides: those of `own` at the worker's own parts, those of `others` elsewhere.
 fn joined<A: Allocator>(
     workers: u8,
     number: u8,
@@ -199,7 +199,7 @@ fn joined<A: Allocator>(
     others
 }
 
-/// What two of them come to, which is refused where one was.
+/// Returns the answers of two sides, or an error if one has failed.
 fn both<A: Allocator>(
     workers: u8,
     number: u8,
@@ -220,20 +220,20 @@ fn both<A: Allocator>(
     }
 }
 
-/// What the workers of a selection have in common.
+/// What the workers of a selection share.
 #[derive(Drop)]
 pub(crate) struct Plan<'q, A: Allocator> {
     /// The allocator.
     pub alloc: A,
-    /// What is asked.
+    /// The query.
     pub query: &'q Query<A>,
-    /// How many workers there are.
+    /// The number of workers.
     pub workers: u8,
-    /// How many parts the table has.
+    /// The number of parts of the table.
     pub parts: u8,
 }
 
-/// Lets one member answer.
+/// Makes one member return the answers of its parts. Fails if an allocation fails.
 fn answer_one<A: Allocator + Copy, T: Turns<A>>(
     plan: &Plan<'_, A>,
     number: u8,
@@ -247,8 +247,8 @@ fn answer_one<A: Allocator + Copy, T: Turns<A>>(
     answer_parts(plan.alloc, plan.query, plan.workers, number, &mut one[0])
 }
 
-/// Lets one member answer in a thread of its own, and the others each in another.
-// A function of its own, so that what the closures require is what it is given.
+/// Makes one member answer on a thread of its own, and the others each on another. Fails if an allocation fails.
+// A separate function, so that the requirements of the closures are its own.
 #[cycle(answers)]
 fn answer_both<R: Threads + Sync, A: Allocator + Copy + Send + Sync, T: Turns<A> + Send>(
     rt: &R,
@@ -281,7 +281,8 @@ fn answer_both<R: Threads + Sync, A: Allocator + Copy + Send + Sync, T: Turns<A>
     both(plan.workers, number, plan.parts, own, others)
 }
 
-/// Lets each member answer, each in a thread of its own, the first one as the worker of this number.
+/// Makes each member answer, each on a thread of its own. The first member is the worker with this number. Fails if an
+/// allocation fails.
 #[cycle(answers)]
 pub(crate) fn answer_each<R: Threads + Sync, A: Allocator + Copy + Send + Sync, T: Turns<A> + Send>(
     rt: &R,

@@ -33,7 +33,7 @@ all_kept p (r ∷ rows) a =
     let here : p r ≡ true = All-head (λ r. IsTrue (p r)) r rows a in
     rw here (ap (λ rs. r ∷ rs) (all_kept p rows (All-tail (λ r. IsTrue (p r)) r rows a)))
 
--- rows that are live, where none but live ones stay, stay
+-- live rows stay if only live rows are kept
 pub live_stay : (fixes : List ℕ) (rows : List Row) → (is_fixed fixes ≡ false → All (λ r. IsTrue (is_live r)) rows) → kept_rows fixes rows ≡ rows
 live_stay fixes rows live = of (is_fixed fixes) live
   where
@@ -50,7 +50,7 @@ kept_few fixes rows =
 
 -- ---- slots and base
 
--- slots stay where no row was added
+-- the number of slots stays if no row was added
 pub slots_same : (kind : TableKind) (before now slots : ℕ) → now ≤ before → slots_after kind before now slots ≡ slots
 slots_same kind before now slots few =
     let more : nat_lt before now ≡ false = le-ltb before now few in
@@ -63,18 +63,18 @@ same_slots false rows fixes now slots base is settled =
     ap (λ (n : ℕ). record { rows = rows; fixes = fixes; slots = n; base = n }) is
     ∙ ap (λ (n : ℕ). record { rows = rows; fixes = fixes; slots = slots; base = n }) (sym (settled refl))
 
--- what is left where the counts of fixes stay, and no row is added
+-- the state that is left if the counts of fixes stay and no row is added
 pub kept_after : (o : Settings) (s : PartState) (rows : List Row) → IsState o s → length rows ≤ length s.rows → state_with o s rows s.fixes ≡ record { rows = kept_rows s.fixes rows; fixes = s.fixes; slots = s.slots; base = s.base }
 kept_after o s rows state few =
     same_slots (is_fixed s.fixes) (kept_rows s.fixes rows) s.fixes _ s.slots s.base (slots_same o.kind (length s.rows) (length (kept_rows s.fixes rows)) s.slots (omega (arith, few, kept_few s.fixes rows))) state.settled
 
--- a state that is written with what it has
+-- a state that is written with its own rows and fixes is unchanged
 pub same_state : (o : Settings) (s : PartState) → IsState o s → state_with o s s.rows s.fixes ≡ s
 same_state o s state =
     kept_after o s s.rows state (omega arith)
     ∙ ap (λ (rows : List Row). record { rows = rows; fixes = s.fixes; slots = s.slots; base = s.base }) (live_stay s.fixes s.rows state.live)
 
--- an operation that writes nothing leaves the state
+-- an operation that writes nothing leaves the state as it was
 pub read_after : (o : Settings) (s : PartState) (n : ℕ) (act : Act) (answer : Answer) → IsState o s → reply_of o s n act ≡ answer → rows_after o s act ≡ s.rows → counts_after s.fixes n act ≡ s.fixes → after o s n act ≡ s
 read_after o s n act (Refused refusal) state is rows counts = after_refused o s n act refusal is
 read_after o s n act (Replied said) state is rows counts =
@@ -83,13 +83,13 @@ read_after o s n act (Replied said) state is rows counts =
     ∙ ap (state_with o s s.rows) counts
     ∙ same_state o s state
 
--- what is left where the rows stay and the counts of fixes change
+-- the state that is left if the rows stay and the counts of fixes change
 pub counted_after : (o : Settings) (s : PartState) (counts : List ℕ) → state_with o s s.rows counts ≡ record { rows = if is_fixed counts then s.rows else filter is_live s.rows; fixes = counts; slots = s.slots; base = if is_fixed counts then s.base else s.slots }
 counted_after o s counts =
     let same : slots_after o.kind (length s.rows) (length (kept_rows counts s.rows)) s.slots ≡ s.slots = slots_same o.kind (length s.rows) (length (kept_rows counts s.rows)) s.slots (kept_few counts s.rows) in
     ap (λ (slots : ℕ). record { rows = kept_rows counts s.rows; fixes = counts; slots = slots; base = if is_fixed counts then s.base else slots }) same
 
--- ---- objects that are put in
+-- ---- objects that are inserted
 
 pub with_live : (kind : TableKind) (k : Datum) (os : List Datum) (t : Datum) → is_live (k, objects_with kind os t) ≡ true
 with_live Set k os t = refl
@@ -122,7 +122,7 @@ live_inserted k os (r ∷ rows) here live =
     placed more Greater =
         All-cons (λ (v : Row). IsTrue (is_live v)) r (insert_entry datum_cmp rows k os) (All-head (λ (v : Row). IsTrue (is_live v)) r rows live) more
 
--- rows stay live where an object is put in
+-- rows stay live after an object is inserted
 pub put_live : (o : Settings) (t : Datum) (rows : List Row) → All (λ r. IsTrue (is_live r)) rows → All (λ r. IsTrue (is_live r)) (with_object o t rows)
 put_live o t rows live =
     by_test (has_row rows (key_of o t)) _
@@ -131,7 +131,7 @@ put_live o t rows live =
     (λ holds. rw holds (live_inserted (key_of o t) (objects_with o.kind [] t) rows (with_live o.kind (key_of o t) [] t) live))
     (λ fails. rw fails (All-append (λ (v : Row). IsTrue (is_live v)) rows _ live (All-cons (λ (v : Row). IsTrue (is_live v)) _ [] (with_live o.kind (key_of o t) [] t) (All-nil (λ (v : Row). IsTrue (is_live v))))))))
 
--- what is left where an object is put in
+-- the state that is left after an object is inserted
 pub put_after : (o : Settings) (s : PartState) (t : Datum) → IsState o s → state_with o s (with_object o t s.rows) s.fixes ≡ record { rows = with_object o t s.rows; fixes = s.fixes; slots = slots_after o.kind (length s.rows) (length (with_object o t s.rows)) s.slots; base = if is_fixed s.fixes then s.base else slots_after o.kind (length s.rows) (length (with_object o t s.rows)) s.slots }
 put_after o s t state =
     ap (λ (rows : List Row). record { rows = rows; fixes = s.fixes; slots = slots_after o.kind (length s.rows) (length rows) s.slots; base = if is_fixed s.fixes then s.base else slots_after o.kind (length s.rows) (length rows) s.slots }) (live_stay s.fixes (with_object o t s.rows) (λ free. put_live o t s.rows (state.live free)))

@@ -1,4 +1,4 @@
--- Objects that answer true.
+-- Objects for which a query returns true.
 use Rattle.std.proofs.Common.{◌≡◌, ◌↔◌, ◌≤◌, List, [], ◌∷◌, refl, ap, sym, ◌∙◌, length, arith}
 use Rattle.std.specs.Prelude.{Bool, true, false, not, ◌||◌, if◌then◌else◌, IsTrue, Option, Some, None, filter}
 use Rattle.std.specs.List.{list_any}
@@ -12,7 +12,7 @@ use Rattle.mcode.specs.Program.{Program}
 use Rattle.part_core.specs.Visits.{is_true}
 use Rattle.part_core.proofs.KeyLemmas.{by_test, same_is, same_from}
 
--- how many of one object at most answer true
+-- for how many objects of a list of at most one the query returns true
 pub chosen_count : (p : Program) (os : List Datum) → length os ≤ 1 → length (filter (is_true p) os) ≡ (if list_any (is_true p) os then 1 else 0)
 chosen_count p [] few = refl
 chosen_count p (t ∷ []) few = of (is_true p t)
@@ -22,7 +22,7 @@ chosen_count p (t ∷ []) few = of (is_true p t)
     of false = refl
 chosen_count p (t ∷ u ∷ os) few = absurd (omega (arith, few))
 
--- what is left of one object at most, where one that answers true goes
+-- what is left of a list of at most one object after one for which the query returns true is deleted
 pub chosen_left : (p : Program) (os : List Datum) → length os ≤ 1 → filter (λ t. not (is_true p t)) os ≡ (if list_any (is_true p) os then [] else os)
 chosen_left p [] few = of (list_any (is_true p) [])
   where
@@ -36,7 +36,7 @@ chosen_left p (t ∷ []) few = of (is_true p t)
     of false = refl
 chosen_left p (t ∷ u ∷ os) few = absurd (omega (arith, few))
 
--- whether code's answer is the atom true
+-- a test that agrees with the code's answer being the atom true is `is_true`
 pub holds_is : (p : Program) (t : Datum) (b : Bool) → (IsTrue b ↔ (answer_of p t ≡ Some (boolean true))) → b ≡ is_true p t
 holds_is p t b both = of (answer_of p t) b both
   where

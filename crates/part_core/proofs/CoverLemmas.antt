@@ -42,7 +42,7 @@ rows_found (r ∷ rows) d =
     later (v ∷ vs) apart found =
         let other : is_same v.0 r.0 ≡ false = same_keys.symm v.0 r.0 ∙ apart.0 in (rw other found.0, later vs apart.1 found.1)
 
--- what rows yield, by their keys
+-- rows yield what the objects of their keys yield
 by_keys : (f : List Datum → List Datum) (g : Datum → List Datum) (vs : List Row) → All (λ v. g v.0 ≡ v.1) vs → flat_map (λ (v : Row). f v.1) vs ≡ flat_map (λ k. f (g k)) (keys_of vs)
 by_keys f g [] a = refl
 by_keys f g (v ∷ vs) a =
@@ -53,7 +53,7 @@ no_yield Answers p = refl
 no_yield Counts p = refl
 no_yield Deletes p = refl
 
--- rows that a test of keys picks out yield what the content of these keys does
+-- rows that a test of keys selects yield what the content of these keys does
 yields_of : (o : Settings) (past : History) (purpose : Purpose) (p : Program) (c : Datum → Bool) → IsLegal o past → Yields o past purpose p c (yield_of_rows purpose p (filter (λ (r : Row). c r.0) (state_after o past).rows))
 yields_of o past purpose p c legal = record {
   keys = keys_of picked;
@@ -110,7 +110,7 @@ at_last P true k vs a e = of (last_or None vs) refl e
     of (Some r) is h =
         let same : r.0 ≡ k = cc in subst P same (of_last (λ (v : Row). P v.0) None vs r (λ no. cc) a is)
 
--- where a walk of an ordered set goes on, each row that was looked at has what the last has
+-- where a walk of an ordered set goes on, a property of each row that was looked at holds of the last row
 next_holds : (P : Datum → Type 0) (o : Settings) (s : PartState) (purpose : Purpose) (p : Program) (scope : Scope) (wanted : ℕ) (k : Datum) → All (λ (r : Row). P r.0) (visited_rows o s purpose p scope wanted) → next_of o s purpose p scope wanted ≡ Some (Behind k) → P k
 next_holds P o s purpose p (Named j) wanted k a e = cc
 next_holds P o s purpose p (After (Class base class)) wanted k a e = no (nat_lt (class + 1) base) e
@@ -130,7 +130,7 @@ next_holds P o s purpose p Begin wanted k a e =
         none true h = cc
         none false h = cc
 
--- each key of the rows has one
+-- each key of the rows has a row
 pub rows_there : (rows : List Row) → All (λ (r : Row). IsTrue (has_row rows r.0)) rows
 rows_there [] = All-nil (λ (v : Row). IsTrue (has_row [] v.0))
 rows_there (r ∷ rows) =

@@ -18,7 +18,7 @@ use Rattle.part_core.proofs.KeyLemmas.{by_test}
 use Rattle.part_core.proofs.StateLemmas.{after_replied, after_refused, content_step}
 use Rattle.part_core.proofs.StepLemmas.{opening_state, slots_grow, state_step}
 
--- ---- one history behind another
+-- ---- one history after another
 
 pub state_more : (o : Settings) (s : PartState) (xs ys : History) → state_from o s (xs ++ ys) ≡ state_from o (state_from o s xs) ys
 state_more o s [] ys = refl

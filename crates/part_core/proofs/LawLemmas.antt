@@ -1,4 +1,4 @@
--- Where visits lead, and which cursors stay the part's; that no object stands at another part than its key's.
+-- Where visits lead, and which cursors stay the part's; and that no object is at another part than its key's.
 use Rattle.std.proofs.Common.{◌≡◌, ◌≢◌, ℕ, ◌<◌, ◌≤◌, ◌+◌, List, [], ◌∷◌, ◌++◌, refl, ap, sym, subst, ◌∙◌, inl, inr, arith, lt-ltb}
 use Rattle.std.specs.Prelude.{Bool, true, false, not, ◌||◌, ◌⊎◌, if◌then◌else◌, nat_eq, nat_le, nat_lt, IsTrue, Option, Some, None, option_map, fold, sum_by, All, length}
 use Rattle.std.specs.List.{list_any, last_or}
@@ -24,7 +24,7 @@ use Rattle.part_core.specs.Legal.{state_after, IsLegal, fix_count}
 use Rattle.part_core.specs.Replies.{fixes_of}
 use Rattle.part_core.specs.Rows.{Row, PartState, opening, is_fixed, objects_with}
 use Rattle.part_core.specs.States.{IsState}
-use Rattle.part_core.specs.Visits.{answers_of, bases, is_behind, is_inside, most_rows, next_class, next_key, next_of, visited_rows}
+use Rattle.part_core.specs.Visits.{answers_of, bases, is_beyond, is_inside, most_rows, next_class, next_key, next_of, visited_rows}
 use Rattle.part_core.proofs.CoverLemmas.{visit_yields, visit_moves}
 use Rattle.part_core.proofs.HistoryLemmas.{base_over, counts_of, legal_front_from, state_of}
 use Rattle.part_core.proofs.KeyLemmas.{by_test, same_is}
@@ -32,7 +32,7 @@ use Rattle.part_core.proofs.StateLemmas.{base_least}
 
 -- ---- where a walk goes on
 
--- behind rows a walk goes on behind a key, or it is at its end
+-- after rows, a walk goes on after a key or is at its end
 key_next : (answers : Row → ℕ) (wanted : ℕ) (rows : List Row) → (next_key answers wanted rows ≡ None) ⊎ ((k : Datum) × (next_key answers wanted rows ≡ Some (Behind k)))
 key_next answers wanted rows = of (nat_le wanted (sum_by answers rows) || nat_eq (length rows) most_rows) (last_or None rows)
   where
@@ -41,7 +41,7 @@ key_next answers wanted rows = of (nat_le wanted (sum_by answers rows) || nat_eq
     of true None = inl refl
     of true (Some r) = inr (r.0, refl)
 
--- a class leads to no key
+-- the cursor after a class is never a key
 class_next : (base class : ℕ) (k : Datum) → next_class base class ≡ Some (Behind k) → ⊥
 class_next base class k e = of (nat_lt (class + 1) base) e
   where
@@ -79,7 +79,7 @@ led o s purpose p (After (Behind j)) wanted next state inside is moves =
   where
     of : (next_key (answers_of purpose p) wanted (visited_rows o s purpose p (After (Behind j)) wanted) ≡ None) ⊎ ((k : Datum) × (next_key (answers_of purpose p) wanted (visited_rows o s purpose p (After (Behind j)) wanted) ≡ Some (Behind k))) → LeadsTo o s.base (After (Behind j)) next
     of (inl none) = inl (is ∙ none)
-    of (inr (k, some)) = inr (k, is ∙ some, (and_parts (is_behind j k) (is_up_to o next k) (moves k (is ∙ some))).0)
+    of (inr (k, some)) = inr (k, is ∙ some, (and_parts (is_beyond j k) (is_up_to o next k) (moves k (is ∙ some))).0)
 led o s purpose p Begin wanted next state inside is moves = (
   (λ plain. is ∙ rw plain (first_class s.base (base_least s.base state.base.0))),
   (λ ordered. of ordered (key_next (answers_of purpose p) wanted (visited_rows o s purpose p Begin wanted))),
@@ -149,13 +149,13 @@ visits_led_inside o past n purpose p scope wanted said at legal goes =
     next_inside o (state_after o past) scope at (state_of o past (legal_front_from o (opening o) past _ legal)) says.inside
     (subst (LeadsTo o (state_after o past).base scope) goes (visits_led o past n purpose p scope wanted said legal))
 
--- ---- other parts' keys
+-- ---- keys of other parts
 
 either_none : (b : Bool) → (if b then [] else []) ≡ (let none : List Datum = [] in none)
 either_none true = refl
 either_none false = refl
 
--- what an object of another key's part writes at a key
+-- an object of a key of one part writes nothing at a key of another part
 other_written : (o : Settings) (part : ℕ) (t k : Datum) (os : List Datum) → part_of o (key_of o t) ≡ part → part_of o k ≢ part → (if is_same (key_of o t) k then os else []) ≡ []
 other_written o part t k os placed other =
     by_test (is_same (key_of o t) k) _

@@ -25,7 +25,7 @@ use Rattle.part_core.specs.Settings.{is_ordered, key_of}
 use Rattle.part_core.specs.Rows.{Row, is_empty, is_live, objects_at, has_row, objects_with, rows_at_key, with_new_row, with_object}
 use Rattle.part_core.proofs.KeyLemmas.{by_test, same_keys, same_is, alike, same_not, greater_below}
 
--- rows whose objects are changed by their keys
+-- rows whose objects are replaced by a function of the key and the objects
 abbrev pub rows_by : (Datum → List Datum → List Datum) → List Row → List Row
 rows_by g rows = map (λ r. (r.0, g r.0 r.1)) rows
 
@@ -58,7 +58,7 @@ no_objects rows k h = of (lookup (is_same k) rows) h
     of None h = refl
     of (Some os) h = cc
 
--- what a further row of another key changes is behind it
+-- a change in rows after one of another key is found past that row
 past : (j : Datum) (os : List Datum) (k : Datum) (r : Row) (rest rows : List Row) → is_same j r.0 ≡ false → lookup (is_same k) rest ≡ (if is_same k j then Some os else lookup (is_same k) rows) → lookup (is_same k) (r ∷ rest) ≡ (if is_same k j then Some os else lookup (is_same k) (r ∷ rows))
 past j os k r rest rows apart h =
     by_test (is_same k r.0) _
@@ -84,7 +84,7 @@ pub lookup_new : (kind : TableKind) (j : Datum) (os : List Datum) (k : Datum) (r
 lookup_new kind j os k rows none =
     by_test (is_ordered kind) _ (λ holds. rw holds (lookup_inserted j os k rows none)) (λ fails. rw fails (lookup_behind j os k rows none))
 
--- what putting an object in makes of those of a key
+-- the objects of key j after the object t is inserted
 abbrev with_put : Settings → Datum → Datum → List Datum → List Datum
 with_put o t j os = if is_same (key_of o t) j then objects_with o.kind os t else os
 
@@ -96,7 +96,7 @@ put_new : (o : Settings) (t : Datum) (rows : List Row) (k : Datum) → has_row r
 put_new o t rows k none =
     rw (lookup_new o.kind (key_of o t) (objects_with o.kind [] t) k rows none, same_keys.symm k (key_of o t)) (by_test (is_same (key_of o t) k) _ (λ holds. rw (holds, no_objects rows k (alike (has_row rows) _ _ holds ∙ none)) refl) (λ fails. rw fails refl))
 
--- an object that was put in is found at its key, and other keys have what they had
+-- an object that was inserted is found at its key, and other keys have what they had
 pub objects_inserted : (o : Settings) (t : Datum) (rows : List Row) (k : Datum) → objects_at (with_object o t rows) k ≡ (if is_same (key_of o t) k then objects_with o.kind (objects_at rows k) t else objects_at rows k)
 objects_inserted o t rows k =
     by_test (has_row rows (key_of o t)) _ (λ there. rw there (put_there o t rows k there)) (λ none. rw none (put_new o t rows k none))
@@ -123,7 +123,7 @@ keys_new_rising j os (r ∷ rows) s =
     placed more Equal is = s
     placed more Greater is = (further (greater_below j r.0 is), more)
 
--- dead rows show in no look-up
+-- a look-up finds the same with dead rows as without
 pub objects_live : (rows : List Row) (k : Datum) → IsDistinct is_same (keys_of rows) → objects_at (filter is_live rows) k ≡ objects_at rows k
 objects_live rows k d =
     rw (lookup-filter-values same_keys (λ os. not (is_empty os)) k rows d) (of (lookup (is_same k) rows))
@@ -148,7 +148,7 @@ unwritten k f [] none = refl
 unwritten k f (r ∷ rows) none =
     by_test (is_same k r.0) _ (λ holds. absurd (true≢false (rw holds at none))) (λ fails. rw fails (ap (λ rs. r ∷ rs) (unwritten k f rows (rw fails at none))))
 
--- keys that none of the rows has
+-- a key that is equal to none of the rows' keys has no row
 pub apart : (k : Datum) (rows : List Row) → AllByRecursion (λ j. is_same k j ≡ false) (keys_of rows) → has_row rows k ≡ false
 apart k [] h = refl
 apart k (r ∷ rows) h = rw h.0 (apart k rows h.1)

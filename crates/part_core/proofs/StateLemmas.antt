@@ -1,4 +1,4 @@
--- What an operation leaves of a state, and that each is one.
+-- What an operation leaves of a state, and that the result is a state.
 use Rattle.std.proofs.Common.{◌≡◌, ℕ, ◌≤◌, List, [], ◌∷◌, refl, ap, sym, subst, ◌∙◌, arith}
 use Rattle.std.specs.Prelude.{Bool, true, false, not, if◌then◌else◌, nat_le, nat_lt, nat_eq, IsTrue, filter}
 use Rattle.std.specs.List.{IsDistinct, AllByRecursion, list_any, list_all}
@@ -22,7 +22,7 @@ use Rattle.part_core.specs.Acts.Scope.{Begin, After, Named}
 use Rattle.part_core.specs.Acts.Act.{Insert, InsertNew, Delete, DeleteObject, Take, Visit}
 use Rattle.part_core.specs.Acts.Answer.{Replied, Refused}
 use Rattle.part_core.specs.Rows.{Row, PartState, is_empty, is_live, is_fixed, objects_at, has_row, objects_with, objects_without, with_object}
-use Rattle.part_core.specs.Visits.{is_true, is_behind, rows_behind, visited_rows, next_of, is_inside, bases, answers_of}
+use Rattle.part_core.specs.Visits.{is_true, is_beyond, following_rows, visited_rows, next_of, is_inside, bases, answers_of}
 use Rattle.part_core.specs.Replies.{reply_of, said_of_object, said_by_visit, yield_of}
 use Rattle.part_core.specs.After.{after, rows_after, counts_after, state_with}
 use Rattle.part_core.specs.Covers.{covers}
@@ -32,7 +32,7 @@ use Rattle.part_core.proofs.KeyLemmas.{by_test}
 use Rattle.part_core.proofs.RowLemmas.{keys_by, objects_by, no_objects, objects_inserted, keys_new_distinct, keys_new_rising, objects_live, among_passing}
 use Rattle.part_core.proofs.VisitLemmas.{filter-filter, up_to_next}
 
--- keys that other rows have too
+-- the properties of rows' keys hold for other rows with equal keys
 pub same_keys_rows : (o : Settings) (rows more : List Row) → keys_of more ≡ keys_of rows → AreRows o rows → AreRows o more
 same_keys_rows o rows more e a = record {
   distinct = subst (IsDistinct is_same) (sym e) a.distinct;
@@ -71,18 +71,18 @@ least (x ∷ xs) n h there =
 pub base_least : (n : ℕ) → IsBase n → 8 ≤ n
 base_least n h = least bases n refl h
 
--- what a visit looks at is what it covers
+-- the rows that a visit looks at are those that it covers
 pub visited_is_covered : (o : Settings) (s : PartState) (purpose : Purpose) (p : Program) (scope : Scope) (wanted : ℕ) → IsState o s → IsTrue (is_inside o s scope) → visited_rows o s purpose p scope wanted ≡ filter (λ r. covers o scope (next_of o s purpose p scope wanted) r.0) s.rows
 visited_is_covered o s purpose p (Named k) wanted state inside = refl
 visited_is_covered o s purpose p (After (Class base class)) wanted state inside = refl
 visited_is_covered o s purpose p (After (Behind k)) wanted state inside =
-    up_to_next o (answers_of purpose p) wanted 64 (rows_behind k s.rows) (omega arith) (keys-filter (λ r. is_behind k r.0) s.rows (state.rows.rising inside)) ∙ filter-filter _ (λ r. is_behind k r.0) s.rows
+    up_to_next o (answers_of purpose p) wanted 64 (following_rows k s.rows) (omega arith) (keys-filter (λ r. is_beyond k r.0) s.rows (state.rows.rising inside)) ∙ filter-filter _ (λ r. is_beyond k r.0) s.rows
 visited_is_covered o s purpose p Begin wanted state inside =
     by_test (is_ordered o.kind) _
     (λ holds. rw holds (up_to_next o (answers_of purpose p) wanted 64 s.rows (omega arith) (state.rows.rising holds)))
     (λ fails. let further : nat_lt 1 s.base ≡ true = lt-ltb 1 s.base (omega (arith, base_least s.base state.base.0)) in rw (fails, further) refl)
 
--- what replies leaves rows that are written, dead ones among them while the part is fixed
+-- what an operation that is not refused leaves: the written rows, dead ones among them while the part is fixed
 pub after_replied : (o : Settings) (s : PartState) (n : ℕ) (act : Act) (said : Said) → reply_of o s n act ≡ Replied said → after o s n act ≡ state_with o s (rows_after o s act) (counts_after s.fixes n act)
 unfolding after
 after_replied o s n act said is = rw is refl
@@ -91,7 +91,7 @@ pub after_refused : (o : Settings) (s : PartState) (n : ℕ) (act : Act) (refusa
 unfolding after
 after_refused o s n act refusal is = rw is refl
 
--- the rows that writing leaves have keys apart and in order
+-- the rows after a write have distinct keys, in order for an ordered set
 put_rows : (o : Settings) (t : Datum) (rows : List Row) → AreRows o rows → AreRows o (with_object o t rows)
 put_rows o t rows a =
     by_test (has_row rows (key_of o t)) _
@@ -114,7 +114,7 @@ written_rows o s (Visit Deletes p scope wanted) a =
     same_keys_rows o s.rows _ (keys_by (λ j os. if list_any (is_same j) (keys_of (visited_rows o s Deletes p scope wanted)) then filter (λ t. not (is_true p t)) os else os) s.rows) a
 written_rows o s act a = a
 
--- dead rows, kept or not, show in no look-up
+-- a look-up finds the same whether dead rows are kept or not
 kept_objects : (o : Settings) (s : PartState) (rows : List Row) (fixes : List ℕ) (k : Datum) → AreRows o rows → objects_at (state_with o s rows fixes).rows k ≡ objects_at rows k
 kept_objects o s rows fixes k a =
     by_test (is_fixed fixes) _ (λ holds. rw holds refl) (λ fails. rw fails (objects_live rows k a.distinct))

@@ -1,4 +1,4 @@
--- Each operation leaves a state.
+-- Each operation leaves a state that satisfies the invariant.
 use Rattle.std.proofs.Common.{◌≡◌, ℕ, ◌≤◌, ◌<◌, ◌+◌, ◌*◌, List, [], ◌∷◌, refl, sym, subst, ◌∙◌, arith, length, lt-ltb}
 use Rattle.std.specs.Prelude.{Bool, true, false, not, ◌&&◌, ◌||◌, if◌then◌else◌, nat_eq, nat_lt, IsTrue, IsFalse, filter, All}
 use Rattle.std.specs.List.{IsDistinct, list_all, list_any}
@@ -78,7 +78,7 @@ pub each_by : (o : Settings) (g : Datum → List Datum → List Datum) (rows : L
 each_by o g rows f a =
     All-map (IsRow o) (λ (r : Row). (r.0, g r.0 r.1)) rows (All-weaker (IsRow o) (λ r. IsRow o (r.0, g r.0 r.1)) f rows a)
 
--- a row that keeps its objects where a test fails
+-- a row that keeps its objects if a test fails
 pub row_where : (o : Settings) (b : Bool) (f : List Datum → List Datum) (r : Row) → (b ≡ true → IsRow o (r.0, f r.1)) → IsRow o r → IsRow o (r.0, if b then f r.1 else r.1)
 row_where o true f r changed row = changed refl
 row_where o false f r changed row = row
@@ -133,7 +133,7 @@ counts_length fixes n Unfix = length-set fixes n _
 counts_length fixes n Release = length-set fixes n 0
 counts_length fixes n act = refl
 
--- each number of slots that isn't the most has its double among them
+-- each number of slots except the greatest has its double among them
 doubled : (xs : List ℕ) (n : ℕ) → list_all (λ x. not (nat_lt x most_slots) || list_any (nat_eq (2 * x)) bases) xs ≡ true → list_any (nat_eq n) xs ≡ true → n < most_slots → IsBase (2 * n)
 doubled [] n all there small = cc
 doubled (x ∷ xs) n all there small =
@@ -144,7 +144,7 @@ doubled (x ∷ xs) n all there small =
     subst (λ (m : ℕ). IsBase (2 * m)) (sym is) (rw below at parts.0))
     (λ fails. doubled xs n parts.1 (rw fails at there) small)
 
--- a set that doubles its slots has got a row more than four a slot, and hadn't the most slots
+-- a set that doubles its slots has got a row, has more than four rows per slot, and had fewer than the most slots
 abbrev IsGrown : ℕ → ℕ → ℕ → Type 0
 IsGrown before now slots = (before < now) × (4 * slots < now) × (slots < most_slots)
 
@@ -160,7 +160,7 @@ slots_grow kind before now slots is =
     (λ stays. rw stays (is, omega arith))
     (λ grows. rw grows (doubled bases slots refl is (grown_so kind before now slots grows).2, omega arith))
 
--- where at most one row was added, a set that still grows has at most four rows a slot
+-- if at most one row was added, a set that can still grow has at most four rows per slot
 room_after : (kind : TableKind) (before now slots : ℕ) → IsFalse (is_ordered kind) → IsBase slots → (slots < most_slots → before ≤ 4 * slots) → now ≤ before + 1 → slots_after kind before now slots < most_slots → now ≤ 4 * slots_after kind before now slots
 room_after kind before now slots plain is room one =
     by_test (is_ordered kind || not (nat_lt before now && (nat_lt (4 * slots) now && nat_lt slots most_slots))) _
@@ -172,7 +172,7 @@ room_after kind before now slots plain is room one =
     (λ fits. ltb-false (4 * slots) now fits)))
     (λ grows. rw grows (λ small. omega (arith, one, room (grown_so kind before now slots grows).2, base_least slots is)))
 
--- an operation adds one row to a set at most
+-- an operation adds at most one row to a set
 pub put_length : (o : Settings) (t : Datum) (rows : List Row) → IsFalse (is_ordered o.kind) → length (with_object o t rows) ≤ length rows + 1
 put_length o t rows plain =
     by_test (has_row rows (key_of o t)) _

@@ -12,7 +12,7 @@ use Rattle.term_core.specs.Order.{datum_cmp}
 use Rattle.part_core.specs.declared.settings.Settings.{Settings}
 use Rattle.part_core.specs.Acts.Cursor.{Behind}
 use Rattle.part_core.specs.Rows.{Row}
-use Rattle.part_core.specs.Visits.{is_behind, rows_up_to}
+use Rattle.part_core.specs.Visits.{is_beyond, rows_up_to}
 use Rattle.part_core.specs.Covers.{is_up_to}
 use Rattle.part_core.proofs.KeyLemmas.{by_test, not_behind_itself, below_not_behind}
 
@@ -27,7 +27,7 @@ pub filter_all : {X : Type 0} (xs : List X) → filter (λ x. true) xs ≡ xs
 filter_all [] = refl
 filter_all (x ∷ xs) = ap (λ ys. x ∷ ys) (filter_all xs)
 
--- the last of some rows, of which the first is given
+-- the last of a list of rows whose first is given
 abbrev last_row : Row → List Row → Row
 last_row r [] = r
 last_row r (v ∷ vs) = last_row v vs
@@ -40,19 +40,19 @@ below_last : (j : Datum) (r : Row) (vs rest : List Row) → AllByRecursion (λ k
 below_last j r [] rest h = h.0
 below_last j r (v ∷ vs) rest h = below_last j v vs rest h.1
 
-none_up_to : (j : Datum) (rest : List Row) → AllByRecursion (λ k. datum_cmp j k ≡ Less) (keys_of rest) → filter (λ r. not (is_behind j r.0)) rest ≡ []
+none_up_to : (j : Datum) (rest : List Row) → AllByRecursion (λ k. datum_cmp j k ≡ Less) (keys_of rest) → filter (λ r. not (is_beyond j r.0)) rest ≡ []
 none_up_to j [] h = refl
 none_up_to j (r ∷ rest) h = rw (h.0) (none_up_to j rest h.1)
 
--- of rows in order, those up to the last of the first ones are the first ones
-up_to_last : (r : Row) (vs rest : List Row) → IsStrictlySortedBy datum_cmp (keys_of (r ∷ vs ++ rest)) → filter (λ v. not (is_behind (last_row r vs).0 v.0)) (r ∷ vs ++ rest) ≡ r ∷ vs
+-- of rows in order, those up to the last of the first rows are exactly the first rows
+up_to_last : (r : Row) (vs rest : List Row) → IsStrictlySortedBy datum_cmp (keys_of (r ∷ vs ++ rest)) → filter (λ v. not (is_beyond (last_row r vs).0 v.0)) (r ∷ vs ++ rest) ≡ r ∷ vs
 unfolding IsStrictlySortedBy
 up_to_last r [] rest s =
     rw (not_behind_itself r.0) (ap (λ vs. r ∷ vs) (none_up_to r.0 rest s.0))
 up_to_last r (v ∷ vs) rest s =
     rw (below_not_behind r.0 (last_row v vs).0 (below_last r.0 v vs rest s.0)) (ap (λ ws. r ∷ ws) (up_to_last v vs rest s.1))
 
--- a visit looks at the first rows
+-- the rows that a visit looks at come first, and the rest follows
 rows_after_visit : (answers : Row → ℕ) (wanted room : ℕ) (xs : List Row) → (rest : List Row) × (xs ≡ rows_up_to answers wanted room xs ++ rest)
 unfolding rows_up_to
 rows_after_visit answers wanted room [] = ([], refl)
@@ -61,7 +61,7 @@ rows_after_visit answers wanted room (x ∷ xs) =
     (λ stops. rw stops (xs, refl))
     (λ goes. let more = rows_after_visit answers (wanted - answers x) (room - 1) xs in rw goes (more.0, ap (λ ys. x ∷ ys) more.1))
 
--- where neither the answers nor the room stop it, it looks at all
+-- if neither the number of answers nor the room stops a visit, it looks at all rows
 all_looked_at : (answers : Row → ℕ) (wanted room : ℕ) (xs : List Row) → 1 ≤ room → nat_le wanted (sum_by answers (rows_up_to answers wanted room xs)) ≡ false → (length (rows_up_to answers wanted room xs) == room) ≡ false → rows_up_to answers wanted room xs ≡ xs
 unfolding rows_up_to
 all_looked_at answers wanted room [] some few short = refl
@@ -93,7 +93,7 @@ stopped_at o (v ∷ vs) rest xs e none s =
     let sorted : IsStrictlySortedBy datum_cmp (keys_of (v ∷ vs ++ rest)) = subst (λ (ys : List Row). IsStrictlySortedBy datum_cmp (keys_of ys)) e s in
     sym (ap (λ (ys : List Row). filter (λ r. is_up_to o (option_map (λ w. Behind w.0) (last_or (Some v) vs)) r.0) ys) e ∙ ap (λ (l : Option Row). filter (λ r. is_up_to o (option_map (λ w. Behind w.0) l) r.0) (v ∷ vs ++ rest)) (last_is v vs) ∙ up_to_last v vs rest sorted)
 
--- so the rows of a visit are those up to where the walk goes on, of rows in order
+-- so of rows in order, a visit looks at those up to where the walk goes on
 pub up_to_next : (o : Settings) (answers : Row → ℕ) (wanted room : ℕ) (xs : List Row) → 1 ≤ room → IsStrictlySortedBy datum_cmp (keys_of xs) → rows_up_to answers wanted room xs ≡ filter (λ r. is_up_to o (if nat_le wanted (sum_by answers (rows_up_to answers wanted room xs)) || length (rows_up_to answers wanted room xs) == room then option_map (λ r. Behind r.0) (last_or None (rows_up_to answers wanted room xs)) else None) r.0) xs
 up_to_next o answers wanted room xs some s =
     let split = rows_after_visit answers wanted room xs in

@@ -46,7 +46,7 @@ abbrev always : Program
 always =
     record { slots = 0; constants = boolean true ∷ []; instructions = instr.Const 0 ∷ instr.Answer ∷ []; frames = []; around = alone }
 
--- the state after these, of sessions 0 and 1
+-- the state after the given acts of sessions 0 and 1
 abbrev acted : TableKind → List (ℕ × Act) → PartState
 acted kind xs = fold (λ s x. after (settings kind) s x.0 x.1) (opening (settings kind)) xs
 
@@ -58,7 +58,7 @@ replaced : (acted Set ((0, Insert (two 1 1)) ∷ (0, Insert (one 9)) ∷ (0, Ins
 unfolding reply_of after datum_cmp
 replaced = refl
 
--- one that is put in again under a fix revives at its place, and without a fix stands behind the others
+-- an object that is inserted again under a fix revives its row where it was; without a fix its row comes after the others
 revived : (acted Set ((0, Insert (one 1)) ∷ (0, Insert (one 9)) ∷ (1, Fix) ∷ (0, Delete (key 1)) ∷ (0, Insert (two 1 2)) ∷ [])).rows ≡ (key 1, two 1 2 ∷ []) ∷ (key 9, one 9 ∷ []) ∷ []
 unfolding reply_of after datum_cmp
 revived = refl
@@ -67,7 +67,7 @@ unfixed : (acted Set ((0, Insert (one 1)) ∷ (0, Insert (one 9)) ∷ (0, Delete
 unfolding reply_of after datum_cmp
 unfixed = refl
 
--- the last fix of all sessions keeps the dead
+-- the last fix of all sessions keeps dead rows
 abbrev fixed_twice : List (ℕ × Act)
 fixed_twice =
     (0, Insert (one 1)) ∷ (0, Insert (one 2)) ∷ (0, Fix) ∷ (1, Fix) ∷ (0, Delete (key 1)) ∷ (0, Unfix) ∷ []
@@ -88,7 +88,7 @@ first_of_two : reply Set ((0, Insert (one 2)) ∷ (0, Insert (one 1)) ∷ []) Fi
 unfolding reply_of after datum_cmp key_hash walk_order
 first_of_two = refl
 
--- a dead row is none to insert_new
+-- insert_new inserts at a key whose row is dead
 new_on_dead : reply Set ((0, Insert (one 1)) ∷ (1, Fix) ∷ (0, Delete (key 1)) ∷ []) (InsertNew (one 1)) ≡ Replied (Flag true)
 unfolding reply_of after datum_cmp
 new_on_dead = refl
@@ -114,7 +114,7 @@ class_of_ordered : reply OrderedSet [] (Visit Answers itself (After (Class 8 0))
 unfolding reply_of after
 class_of_ordered = refl
 
--- rows of one class, in the order in which they were made
+-- rows of one class, in the order in which they were created
 abbrev one_class : List (ℕ × Act)
 one_class = (0, Insert (one 17)) ∷ (0, Insert (one 1)) ∷ (0, Insert (one 2)) ∷ (0, Insert (one 9)) ∷ []
 
@@ -134,7 +134,7 @@ first_piece : reply OrderedSet ordered (Visit Answers itself Begin 1) ≡ Replie
 unfolding reply_of after datum_cmp rows_up_to answer_of
 first_piece = refl
 
--- the last answer that is wanted at the last row leaves a cursor
+-- a visit that reaches its target at the last row leaves a cursor
 last_wanted : reply OrderedSet ordered (Visit Answers itself (After (Behind (key 10))) 2) ≡ Replied (Found (one 20 ∷ one 30 ∷ []) (Some (Behind (key 30))))
 unfolding reply_of after datum_cmp rows_up_to answer_of
 last_wanted = refl
@@ -147,7 +147,7 @@ any_key : reply OrderedSet ordered (Next (key 15)) ≡ Replied (AtKey (Some (key
 unfolding reply_of after datum_cmp
 any_key = refl
 
--- an ordered set with so many rows
+-- an ordered set with n rows
 abbrev long : ℕ → PartState
 long n =
     record (opening (settings OrderedSet)) { rows = map (λ m. (key m, one m ∷ [])) (range_with_len 0 n) }
@@ -155,7 +155,7 @@ long n =
 abbrev counted : ℕ → Answer
 counted n = reply_of (settings OrderedSet) (long n) 0 (Visit Counts always Begin (2 ^ 64 - 1))
 
--- the sixty-fourth row leaves a cursor though it is the last
+-- a visit that stops at its sixty-fourth row leaves a cursor even if that row is the last
 sixty_three : counted 63 ≡ Replied (Counted 63 None)
 unfolding reply_of datum_cmp rows_up_to answer_of
 sixty_three = refl
@@ -168,7 +168,7 @@ sixty_five : counted 65 ≡ Replied (Counted 64 (Some (Behind (key 63))))
 unfolding reply_of datum_cmp rows_up_to answer_of
 sixty_five = refl
 
--- objects that answer true are deleted where they were evaluated, others stay
+-- objects for which the query returns true are deleted, and others stay
 deleted : (acted Set (one_class ++ (0, Visit Deletes always (After (Class 8 1)) 1) ∷ [])).rows ≡ (key 2, one 2 ∷ []) ∷ []
 unfolding reply_of after datum_cmp key_hash answer_of
 deleted = refl
@@ -177,7 +177,7 @@ none_deleted : (acted Set (one_class ++ (0, Visit Deletes itself (After (Class 8
 unfolding reply_of after datum_cmp key_hash answer_of
 none_deleted = refl
 
--- of a bag, equal objects are one, and those of a duplicate bag are not
+-- a bag keeps one of several equal objects, and a duplicate bag keeps all
 bag : (acted Bag ((0, Insert (two 1 1)) ∷ (0, Insert (two 1 2)) ∷ (0, Insert (two 1 1)) ∷ [])).rows ≡ (key 1, two 1 1 ∷ two 1 2 ∷ []) ∷ []
 unfolding reply_of after datum_cmp
 bag = refl
@@ -186,7 +186,7 @@ duplicate_bag : (acted DuplicateBag ((0, Insert (two 1 1)) ∷ (0, Insert (two 1
 unfolding reply_of after datum_cmp
 duplicate_bag = refl
 
--- a session releases its own fixes alone
+-- a session releases only its own fixes
 abbrev released : List (ℕ × Act)
 released =
     (0, Insert (one 1)) ∷ (0, Fix) ∷ (1, Fix) ∷ (1, Fix) ∷ (0, Delete (key 1)) ∷ (1, Release) ∷ []
@@ -199,7 +199,7 @@ dead_still : (acted Set released).rows ≡ (key 1, []) ∷ []
 unfolding reply_of after datum_cmp
 dead_still = refl
 
--- what is refused for its own sake
+-- operations that are refused
 too_small : reply Set [] (Insert (tuple no_items)) ≡ Refused TooSmall
 unfolding reply_of
 too_small = refl

@@ -3,24 +3,26 @@ use Rattle.std.specs.Prelude.{ℕ, ◌<◌, Bool, true, false, Option, None, Lis
 use Rattle.term_core.specs.Datum.{Datum}
 use Rattle.mcode.specs.Program.{Program}
 
--- what a visit is for: to answer objects, to count those whose answer is the atom true, or to delete these
+-- the purpose of a visit: to return answers, to count the objects whose answer is the atom true, or to delete these objects
 pub data Purpose : Type 0 where
   Answers : Purpose
   Counts : Purpose
   Deletes : Purpose
 
--- where a walk goes on: at a class of a set, by the base that the walk goes by; or behind a key of an ordered set
+-- where a walk goes on: at a class of a set, given with the base by which the walk divides the part; or after a key of
+-- an ordered set
 pub data Cursor : Type 0 where
   Class : ℕ → ℕ → Cursor
   Behind : Datum → Cursor
 
--- what a visit looks at: where a walk begins, where it goes on, or one named key
+-- what a visit looks at: the beginning of a walk, the place where a walk goes on, or one named key
 pub data Scope : Type 0 where
   Begin : Scope
   After : Cursor → Scope
   Named : Datum → Scope
 
--- one operation at a part; a visit has its purpose, the query's code, where to look, and how many answers are wanted
+-- one operation at a part; a visit has its purpose, the query's code, where to look, and its target: the number of
+-- answers after which it stops
 pub data Act : Type 0 where
   Insert : Datum → Act
   InsertNew : Datum → Act
@@ -36,8 +38,8 @@ pub data Act : Type 0 where
   First : Act
   Next : Datum → Act
 
--- what a part says: nothing; yes or no; the objects of a key; a key, none at the end; what a visit found, or how many,
--- and where the walk goes on, none at the end
+-- the value that a part returns: nothing; yes or no; the objects of a key; a key, or none at the end; the objects that
+-- a visit found, or their number, and where the walk goes on, none at its end
 pub data Said : Type 0 where
   Nothing : Said
   Flag : Bool → Said
@@ -46,7 +48,8 @@ pub data Said : Type 0 where
   Found : List Datum → Option Cursor → Said
   Counted : ℕ → Option Cursor → Said
 
--- no object; a count at its end; no fix to release; no row of the key; a cursor that isn't the part's
+-- why an operation is refused: the term is no object; the count of fixes is at its limit; there is no fix to release;
+-- the key has no row; the cursor isn't the part's
 pub data Refusal : Type 0 where
   TooSmall : Refusal
   FixLimit : Refusal
@@ -54,32 +57,32 @@ pub data Refusal : Type 0 where
   BadKey : Refusal
   CursorOutside : Refusal
 
--- what an operation is answered
+-- the answer to an operation: a value, or a refusal
 pub data Answer : Type 0 where
   Replied : Said → Answer
   Refused : Refusal → Answer
 
--- who did what, and what was answered
+-- one entry of a history: which session did what, and the answer
 pub record Entry : Type 0 where
   pub session : ℕ
   pub act : Act
   pub answer : Answer
 
--- what was done at a part, in order
+-- what was done at a part, in order of time
 abbrev pub History : Type 0
 History = List Entry
 
--- an operation that may be asked for: a visit wants at least one answer
+-- an operation that may be requested: the target of a visit is at least 1
 abbrev pub IsAsked : Act → Type 0
 IsAsked (Visit purpose p scope wanted) = 0 < wanted
 IsAsked act = Unit {0}
 
--- an answer that refuses
+-- the answer is a refusal
 abbrev pub is_refused : Answer → Bool
 is_refused (Replied said) = false
 is_refused (Refused refusal) = true
 
--- where a walk goes on after a visit
+-- where a walk goes on after a visit; none if the value is no visit's
 abbrev pub next_in : Said → Option Cursor
 next_in (Found xs next) = next
 next_in (Counted count next) = next

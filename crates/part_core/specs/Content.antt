@@ -13,7 +13,7 @@ use Rattle.part_core.specs.Rows.{objects_with, objects_without}
 use Rattle.part_core.specs.Visits.{is_true}
 use Rattle.part_core.specs.Covers.{covers}
 
--- the objects of a key after an entry that replied
+-- the objects of a key after an entry; an entry that was refused changes nothing
 abbrev pub written : Settings → Datum → List Datum → Act → Answer → List Datum
 written o k os (Insert t) (Replied said) =
     if is_same (key_of o t) k then objects_with o.kind os t else os
@@ -27,6 +27,6 @@ written o k os (Visit Deletes p scope wanted) (Replied said) =
     if covers o scope (next_in said) k then filter (λ t. not (is_true p t)) os else os
 written o k os act answer = os
 
--- the objects of a key after a history, none at its beginning
+-- the objects of a key after a history; at its beginning there are none
 abbrev pub content : Settings → Datum → History → List Datum
 content o k log = fold (λ os e. written o k os e.act e.answer) [] log

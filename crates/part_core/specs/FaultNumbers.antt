@@ -1,4 +1,4 @@
--- The numbers of the refusals.
+-- The error codes of the refusals.
 use Rattle.std.specs.Prelude.{ℕ}
 use Rattle.part_core.specs.declared.fault.Fault.{Fault}
 use Rattle.part_core.specs.declared.fault.Fault.TheVariants as fault

@@ -12,7 +12,7 @@ use Rattle.part_core.specs.Acts.Scope.{Begin, After, Named}
 use Rattle.part_core.specs.Acts.Answer.{Replied}
 use Rattle.part_core.specs.Rows.{PartState, is_fixed, objects_at, has_row}
 use Rattle.part_core.specs.Replies.{fixes_of, said_by_visit, yield_of}
-use Rattle.part_core.specs.Visits.{is_behind, is_inside, next_class, next_of}
+use Rattle.part_core.specs.Visits.{is_beyond, is_inside, next_class, next_of}
 use Rattle.part_core.specs.States.{IsState, IsBase}
 use Rattle.part_core.specs.Legal.{state_after, IsRight, IsLegal, IsFixedFrom, fix_count}
 use Rattle.part_core.specs.Content.{content}
@@ -25,8 +25,8 @@ ContentIsThatOfTheRows =
     (o : Settings) (log : History) (k : Datum) → IsLegal o log
     → objects_at (state_after o log).rows k ≡ content o k log
 
--- A visit that was answered could look there, and says what its query answers for the keys that it covers, on their
--- content before it, and where the walk goes on.
+-- A visit that was not refused could look at its scope. It returns the query's answers for the keys that it covers, on
+-- their content before the visit, and where the walk goes on.
 pub record IsSaidByVisit (o : Settings) (past : History) (purpose : Purpose) (p : Program) (scope : Scope) (wanted : ℕ) (said : Said) : Type 0 where
   pub inside : IsTrue (is_inside o (state_after o past) scope)
   pub next : next_in said ≡ next_of o (state_after o past) purpose p scope wanted
@@ -39,13 +39,14 @@ VisitsAnswerTheirCover =
     → IsLegal o (past ++ (record { session = n; act = Visit purpose p scope wanted; answer = Replied said }) ∷ [])
     → IsSaidByVisit o past purpose p scope wanted said
 
--- Where a walk goes on behind an answered visit: nowhere behind a named key; at the next class; behind a further key;
--- and where it began, in a set at class 1 by the base of the part.
+-- Where a walk goes on after a visit that was not refused: nowhere after a named key; at the next class after a class;
+-- after a further key after a key. A walk that begins goes on at class 1 by the part's base in a set, and after a key
+-- or nowhere in an ordered set.
 abbrev pub LeadsTo : Settings → ℕ → Scope → Option Cursor → Type 0
 LeadsTo o base (Named k) next = next ≡ None
 LeadsTo o base (After (Class other class)) next = (class < other) × (next ≡ next_class other class)
 LeadsTo o base (After (Behind j)) next =
-    (next ≡ None) ⊎ ((k : Datum) × (next ≡ Some (Behind k)) × IsTrue (is_behind j k))
+    (next ≡ None) ⊎ ((k : Datum) × (next ≡ Some (Behind k)) × IsTrue (is_beyond j k))
 LeadsTo o base Begin next =
     (IsFalse (is_ordered o.kind) → next ≡ Some (Class base 1))
     × (IsTrue (is_ordered o.kind) → (next ≡ None) ⊎ ((k : Datum) × (next ≡ Some (Behind k))))
@@ -69,19 +70,19 @@ VisitsLeadInside =
     → IsLegal o (past ++ (record { session = n; act = Visit purpose p scope wanted; answer = Replied said }) ∷ [])
     → next_in said ≡ Some at → IsTrue (is_inside o (state_after o past) (After at))
 
--- an object that is put in is put in at its key's part
+-- an object that is inserted is inserted at the part of its key
 abbrev pub IsPlacedAt : Settings → ℕ → Act → Type 0
 IsPlacedAt o part (Insert t) = part_of o (key_of o t) ≡ part
 IsPlacedAt o part (InsertNew t) = part_of o (key_of o t) ≡ part
 IsPlacedAt o part act = Unit {0}
 
--- a part at which only objects of its keys are put in has none of another key
+-- a part at which only objects of its own keys are inserted has no object of another key
 abbrev pub NoneElsewhere : Type 0
 NoneElsewhere =
     (o : Settings) (part : ℕ) (log : History) (k : Datum) → All (λ e. IsPlacedAt o part e.act) log → part_of o k ≢ part
     → content o k log ≡ []
 
--- a part that a session fixes is fixed
+-- a part that some session fixes is fixed
 abbrev pub FixesShow : Type 0
 FixesShow =
     (o : Settings) (log : History) (n : ℕ) → IsLegal o log → n < o.sessions → 0 < fix_count n log
@@ -95,24 +96,24 @@ VisitsMoveOn =
     → next_in said ≡ Some (Behind k)
     → IsTrue (has_row (state_after o past).rows k) × IsTrue (covers o scope (next_in said) k)
 
--- a part is always in such a state
+-- the state of a part after a legal history satisfies `IsState`
 abbrev pub StatesAreKept : Type 0
 StatesAreKept = (o : Settings) (log : History) → IsLegal o log → IsState o (state_after o log)
 
--- the counts of the state are those of the history
+-- the counts of fixes in the state are those of the history
 abbrev pub FixesAreCounted : Type 0
 FixesAreCounted =
     (o : Settings) (log : History) (n : ℕ) → IsLegal o log → n < o.sessions
     → fixes_of (state_after o log) n ≡ fix_count n log
 
--- the base never falls, and always is a number of slots
+-- the base never falls, and is always a number of slots that a set can have
 abbrev pub BaseNeverFalls : Type 0
 BaseNeverFalls =
     (o : Settings) (past more : History) → IsLegal o (past ++ more)
     → ((state_after o past).base ≤ (state_after o (past ++ more)).base)
     × (IsBase (state_after o past).base × IsBase (state_after o (past ++ more)).base)
 
--- what stays of a part's rows: the base; each key; in a set the order of the keys, new ones behind them
+-- what stays of a part's rows: the base; each key; and in a set the order of the keys, with new ones after them
 pub record Stays (o : Settings) (old new : PartState) : Type 0 where
   pub base : new.base ≡ old.base
   pub rows : (k : Datum) → IsTrue (has_row old.rows k) → IsTrue (has_row new.rows k)
@@ -126,7 +127,7 @@ FixedRowsStay =
     → IsFixedFrom o (state_after o past) more
     → Stays o (state_after o past) (state_after o (past ++ more))
 
--- a right entry goes on a legal history
+-- a legal history with a right entry appended is legal
 abbrev pub LegalGoesOn : Type 0
 LegalGoesOn =
     (o : Settings) (log : History) (e : Entry) → IsLegal o log → IsRight o (state_after o log) e

@@ -1,4 +1,4 @@
--- That a history is legal is a fact: there is one proof of it at most, so that types can keep it.
+-- That a history is legal is a fact: there is at most one proof of it, so that types can keep it.
 use Rattle.std.specs.Prelude.{[], ◌∷◌}
 use Rattle.std.specs.Coded.{codes}
 use Rattle.std.proofs.Props.{props}

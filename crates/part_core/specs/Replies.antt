@@ -12,53 +12,53 @@ use Rattle.part_core.specs.Acts.Said.{Nothing, Flag, Objects, AtKey, Found, Coun
 use Rattle.part_core.specs.Acts.Answer.{Replied, Refused}
 use Rattle.part_core.specs.Acts.Refusal.{TooSmall, FixLimit, NotFixed, BadKey, CursorOutside}
 use Rattle.part_core.specs.Rows.{Row, PartState, is_empty, is_live, objects_at, has_row}
-use Rattle.part_core.specs.Visits.{yield_of_rows, rows_behind, visited_rows, next_of, is_inside, walk_order}
+use Rattle.part_core.specs.Visits.{yield_of_rows, following_rows, visited_rows, next_of, is_inside, walk_order}
 
--- the most fixes of a session at a part
+-- the greatest number of fixes of one session at a part
 abbrev pub most_fixes : ℕ
 most_fixes = 65535
 
--- the most that is counted
+-- the greatest number that a visit counts
 abbrev pub most_counted : ℕ
 most_counted = 2 ^ 64 - 1
 
--- how often a session fixes the part
+-- how many times a session fixes the part
 abbrev pub fixes_of : PartState → ℕ → ℕ
 fixes_of s n = get_or s.fixes n 0
 
--- what a visit answers for
+-- what a visit yields: answers, or the objects that it counts or deletes
 abbrev pub yield_of : Settings → PartState → Purpose → Program → Scope → ℕ → List Datum
 yield_of o s purpose p scope wanted =
     yield_of_rows purpose p (visited_rows o s purpose p scope wanted)
 
--- what a visit says: what it found, or how many, and where the walk goes on
+-- the value that a visit returns: what it found, or how many, and where the walk goes on
 abbrev pub said_by_visit : Purpose → List Datum → Option Cursor → Said
 said_by_visit Answers found next = Found found next
 said_by_visit Counts found next = Counted (min (length found) most_counted) next
 said_by_visit Deletes found next = Counted (min (length found) most_counted) next
 
--- the first of these keys that has objects
+-- the first of these rows' keys that has objects
 abbrev pub first_live : List Row → Option Datum
 first_live rows = option_map (λ r. r.0) (find is_live rows)
 
--- the rows behind that of a key
+-- the rows after that of a key
 abbrev pub rows_past : Datum → List Row → List Row
 rows_past k [] = []
 rows_past k (r ∷ rs) = if is_same k r.0 then rs else rows_past k rs
 
--- nothing is said of an object, and another term is refused
+-- the given value if the term is an object; any other term is refused
 abbrev pub said_of_object : Settings → Datum → Said → Answer
 said_of_object o t said = if is_object o t then Replied said else Refused TooSmall
 
--- the key behind another: in an ordered set of any key, else of one that has a row, dead or live
-abbrev pub key_behind : Settings → PartState → Datum → Answer
-key_behind o s k =
-    if is_ordered o.kind then Replied (AtKey (first_live (rows_behind k s.rows)))
+-- the key after another, which may be any key in an ordered set; in another table it must have a row, dead or live
+abbrev pub following_key : Settings → PartState → Datum → Answer
+following_key o s k =
+    if is_ordered o.kind then Replied (AtKey (first_live (following_rows k s.rows)))
     else if has_row s.rows k
     then Replied (AtKey (first_live (rows_past k (walk_order o s.base s.rows))))
     else Refused BadKey
 
--- what a session is answered
+-- the answer to an operation of a session
 unfoldable pub reply_of : Settings → PartState → ℕ → Act → Answer
 reply_of o s n (Insert t) = said_of_object o t Nothing
 reply_of o s n (InsertNew t) =
@@ -76,4 +76,4 @@ reply_of o s n (Visit purpose p scope wanted) =
     then Replied (said_by_visit purpose (yield_of o s purpose p scope wanted) (next_of o s purpose p scope wanted))
     else Refused CursorOutside
 reply_of o s n First = Replied (AtKey (first_live (walk_order o s.base s.rows)))
-reply_of o s n (Next k) = key_behind o s k
+reply_of o s n (Next k) = following_key o s k

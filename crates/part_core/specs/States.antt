@@ -12,12 +12,12 @@ use Rattle.part_core.specs.Rows.{Row, PartState, is_live, is_fixed}
 use Rattle.part_core.specs.Visits.{bases}
 use Rattle.part_core.specs.After.{most_slots}
 
--- no key has two rows, and those of an ordered set stand by rising key
+-- no key has two rows, and those of an ordered set are in ascending key order
 pub record AreRows (o : Settings) (rows : List Row) : Type 0 where
   pub distinct : IsDistinct is_same (keys_of rows)
   pub rising : IsTrue (is_ordered o.kind) → IsStrictlySortedBy datum_cmp (keys_of rows)
 
--- an object of a key
+-- a term is an object with a given key
 abbrev pub IsObjectOf : Settings → Datum → Datum → Type 0
 IsObjectOf o k t = IsTrue (is_object o t) × (key_of o t ≡ k)
 
@@ -30,9 +30,9 @@ pub record IsRow (o : Settings) (row : Row) : Type 0 where
 abbrev pub IsBase : ℕ → Type 0
 IsBase n = IsTrue (list_any (nat_eq n) bases)
 
--- Every state of a part: its rows, and that dead ones stay only while it is fixed; a count of fixes for each session;
--- and the base, which is one that the slots have been, and their number while nothing is fixed. A set that still
--- grows has at most four rows a slot.
+-- What holds of every state of a part: of its rows; that dead rows stay only while it is fixed; that there is a count
+-- of fixes for each session; that the base is a number that the slots have been, and their number while nothing is
+-- fixed. A set that can still grow has at most four rows per slot.
 pub record IsState (o : Settings) (s : PartState) : Type 0 where
   pub rows : AreRows o s.rows
   pub each : All (IsRow o) s.rows

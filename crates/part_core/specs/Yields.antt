@@ -1,4 +1,4 @@
--- What it means that answers are those for the keys that a visit covers.
+-- What it means that a visit's answers are those for the keys that it covers.
 use Rattle.std.specs.Prelude.{◌≡◌, ◌≢◌, ◌⊎◌, Bool, IsTrue, All, AllPairs, Contains, flat_map, List, []}
 use Rattle.term_core.specs.Datum.{Datum}
 use Rattle.mcode.specs.Program.{Program}
@@ -8,7 +8,7 @@ use Rattle.part_core.specs.Visits.{yields}
 use Rattle.part_core.specs.Content.{content}
 
 -- There are distinct keys of the cover, in some order, such that the answers are those for their objects after the
--- history, one key after the other; for every other key of the cover nothing is answered.
+-- history, one key after the other. Every other key of the cover yields nothing.
 pub record Yields (o : Settings) (past : History) (purpose : Purpose) (p : Program) (cover : Datum → Bool) (answers : List Datum) : Type 0 where
   pub keys : List Datum
   pub apart : AllPairs (λ j k. j ≢ k) keys

@@ -1,7 +1,7 @@
 //! An entry of a part's history.
 use std::marker::Model;
 
-/// Who did what at a part, and what was answered, as contracts see it. No value of it is ever made.
+/// Which session did what at a part, and what was answered, as contracts see it. No value of this type is ever created.
 #[derive(Drop)]
 pub struct Entry {
     _none: (),

@@ -1,26 +1,26 @@
-//! Why a part refuses.
+//! Why a part rejects an operation.
 use std::alloc::AllocError;
 use thiserror::Error;
 
-/// Why an operation is refused.
+/// Why an operation is rejected.
 #[derive(Clone, Copy, Debug, PartialEq, Eq, Error)]
 pub enum Fault {
-    /// No memory was given.
+    /// An allocation failed.
     #[error("out of memory")]
     Memory,
-    /// The object is no tuple with an element at the key's place.
+    /// The object is not a tuple with an element at the key's position.
     #[error("the object is too small")]
     TooSmall,
-    /// The session fixes the part 65,535 times.
+    /// The session already fixes the part 65,535 times, the limit.
     #[error("the part is fixed too often")]
     FixLimit,
-    /// The session doesn't fix the part.
+    /// The session has no fix of the part to release.
     #[error("the part isn't fixed by the session")]
     NotFixed,
     /// The key has no row.
     #[error("the key has no row")]
     BadKey,
-    /// The cursor is of the other kind, its base is none that the part has had, or its class isn't below the base.
+    /// The cursor is of the other kind, its base is none that the part has had, or its class is not below the base.
     #[error("the cursor isn't the part's")]
     CursorOutside,
 }
@@ -28,10 +28,10 @@ pub enum Fault {
 /// Why a part can't be made.
 #[derive(Clone, Copy, Debug, PartialEq, Eq, Error)]
 pub enum OpenFault {
-    /// No memory was given.
+    /// An allocation failed.
     #[error("out of memory")]
     Memory,
-    /// A number is outside its range, or the part doesn't serve the kind.
+    /// A number is outside its range, or the part does not serve the kind.
     #[error("the options don't fit")]
     BadOptions,
 }
@@ -62,7 +62,7 @@ impl Fault {
     ghost use Rattle.std.specs.Prelude.{◌≡◌};
     ghost use Rattle.part_core.specs.FaultNumbers.{fault_number};
 
-    /// The number that the fault has in what programs print.
+    /// Returns the error code that programs print: 1 for out of memory, otherwise from 50 to 54.
     pub const fn number(self) -> u8
         ensures { result ≡ fault_number self }
     {
@@ -82,7 +82,7 @@ impl OpenFault {
     ghost use Rattle.part_core.specs.FaultNumbers.{open_fault_number};
     ghost use Rattle.part_core.specs.declared.fault.OpenFault.TheVariants.{Memory};
 
-    /// The number that the fault has in what programs print.
+    /// Returns the error code that programs print: 1 for out of memory, 60 for bad options.
     pub const fn number(self) -> u8
         ensures { result ≡ open_fault_number self }
     {
@@ -92,7 +92,7 @@ impl OpenFault {
         }
     }
 
-    /// The library's error for want of memory, which the fault has to be.
+    /// Converts the fault to the library's out-of-memory error. It must be `OpenFault::Memory`.
     pub fn alloc_error(self) -> AllocError
         requires { self ≡ Memory }
     {

@@ -13,11 +13,11 @@ use std::marker::Model;
 use std::{mem, slice};
 use term_core::Term;
 
-/// How many objects there is room for where a key gets its second.
+/// The capacity of a list that is created when a key gets its second object.
 const FEW: usize = 4;
 
-/// No object, one, which stands in the row itself, or a list. A list stays one when objects go, since another place
-/// for them would want memory.
+/// No object; one, which is in the row itself; or a list. A list remains one when objects are deleted, since moving
+/// them elsewhere would need memory.
 #[derive(Drop)]
 enum Objects<A: Allocator> {
     Empty,
@@ -25,10 +25,17 @@ enum Objects<A: Allocator> {
     Many(Box<Vec<Term<A>, A>, A>),
 }
 
-/// The objects that are held of a key, in the order of time. A row that holds none is dead.
-#[derive(Drop)]
+/// The objects that are held at a key, in the order of insertion. A row that holds none is dead.
 pub struct Held<A: Allocator = Global> {
     objects: Objects<A>,
+}
+
+/// By hand: a function that drops one has one call in its proof, and not a case for each way in which its parts are dropped.
+impl<A: Allocator> Drop for Held<A> {
+    fn drop(self) {
+        let Held { objects } = self;
+        drop(objects);
+    }
 }
 
 impl<A: Allocator> Model for Held<A> {
@@ -45,7 +52,7 @@ impl<A: Allocator> Model for Held<A> {
     ghost view = { λ held. objects_of held.objects };
 }
 
-/// An object, taken from where it is.
+/// Takes the object out of an option that has one, and leaves `None`.
 pub fn taken<A: Allocator>(object: &mut Option<Term<A>>) -> Term<A>
     requires { IsSome object.old }
     ensures object { result ≡ unwrap_or object.old nil }
@@ -57,21 +64,21 @@ pub fn taken<A: Allocator>(object: &mut Option<Term<A>>) -> Term<A>
     }
 }
 
-/// Whether an object is among some.
+/// Returns whether an object is equal to one of `objects`.
 fn is_among<A: Allocator>(object: &Term<A>, objects: &[Term<A>]) -> bool
     ensures { result ≡ list_any (is_same object.now) objects.now }
 {
     objects.iter().any(|present| object == present)
 }
 
-/// Lets those of a list go that are equal to an object.
+/// Removes from a list the objects that are equal to `object`.
 fn keep_others<A: Allocator>(list: &mut Vec<Term<A>, A>, object: &Term<A>)
     ensures { list.new.items ≡ objects_without object.now list.old.items }
 {
     list.retain(|present| object != present);
 }
 
-/// The object, where there is one alone.
+/// Returns the object if there is exactly one.
 fn only<A: Allocator>(objects: Objects<A>) -> Option<Term<A>>
     ensures { (object : Datum) → objects_of objects ≡ object ∷ [] → result ≡ Some object }
 {
@@ -82,7 +89,7 @@ fn only<A: Allocator>(objects: Objects<A>) -> Option<Term<A>>
     }
 }
 
-/// Without those that are equal to an object.
+/// Returns the objects without those that are equal to `object`.
 fn without<A: Allocator>(objects: Objects<A>, object: &Term<A>) -> Objects<A>
     ensures { objects_of result ≡ objects_without object.now (objects_of objects) }
 {
@@ -102,7 +109,7 @@ fn without<A: Allocator>(objects: Objects<A>, object: &Term<A>) -> Objects<A>
     }
 }
 
-/// A list in which there is room for a few objects.
+/// Returns an empty list with room for a few objects, at least 2. Fails if an allocation fails.
 fn room_for_few<A: Allocator + Copy>(alloc: A) -> Result<Box<Vec<Term<A>, A>, A>, AllocError>
     ensures items { IfOk result (λ list. list.value.items ≡ []) }
     ensures room { IfOk result (λ list. vec_len list.value + 2 ≤ vec_capacity list.value) }
@@ -112,7 +119,7 @@ fn room_for_few<A: Allocator + Copy>(alloc: A) -> Result<Box<Vec<Term<A>, A>, A>
     Ok(list)
 }
 
-/// One object and a second, in a list in which there is room for both.
+/// Returns two objects, `first` and `second`, in a list that is empty and has room for both.
 fn with_second<A: Allocator>(
     first: Objects<A>,
     list: Box<Vec<Term<A>, A>, A>,
@@ -130,7 +137,7 @@ fn with_second<A: Allocator>(
     Objects::Many(list)
 }
 
-/// Puts an object behind those of a list.
+/// Appends an object to a list, and takes it out of the option. If an allocation fails, both are unchanged.
 fn push<A: Allocator>(
     list: &mut Vec<Term<A>, A>,
     object: &mut Option<Term<A>>,
@@ -150,7 +157,7 @@ impl<A: Allocator> Held<A> {
     ghost use Rattle.std.specs.Prelude.{Some};
     ghost use Rattle.part_core.specs.Rows.{is_empty};
 
-    /// No object.
+    /// Returns an empty list of objects, as a dead row has it.
     pub fn none() -> Self
         ensures { result ≡ [] }
     {
@@ -159,7 +166,7 @@ impl<A: Allocator> Held<A> {
         }
     }
 
-    /// An object.
+    /// Returns a list of one object.
     pub fn one(object: Term<A>) -> Self
         ensures { result ≡ object ∷ [] }
     {
@@ -168,7 +175,7 @@ impl<A: Allocator> Held<A> {
         }
     }
 
-    /// The objects.
+    /// Returns the objects as a slice, in the order of insertion.
     pub fn as_slice(&self) -> &[Term<A>]
         ensures { result.now ≡ self.now }
     {
@@ -179,28 +186,29 @@ impl<A: Allocator> Held<A> {
         }
     }
 
-    /// Whether there is none.
+    /// Returns whether there is no object.
     pub fn is_empty(&self) -> bool
         ensures { result ≡ is_empty self.now }
     {
         self.as_slice().is_empty()
     }
 
-    /// Whether one is equal to a term.
+    /// Returns whether an object is equal to a term.
     pub fn has(&self, object: &Term<A>) -> bool
         ensures { result ≡ list_any (is_same object.now) self.now }
     {
         is_among(object, self.as_slice())
     }
 
-    /// The object, where there is one alone.
+    /// Returns the object if there is exactly one.
     pub fn into_object(self) -> Option<Term<A>>
         ensures { (object : Datum) → self ≡ object ∷ [] → result ≡ Some object }
     {
-        only(self.objects)
+        let Held { objects } = self;
+        only(objects)
     }
 
-    /// Lets the objects go that are equal to a term. No memory is taken.
+    /// Removes the objects that are equal to a term. It does not allocate.
     pub fn remove(&mut self, object: &Term<A>)
         ensures { self.new ≡ objects_without object.now self.old }
     {
@@ -208,7 +216,7 @@ impl<A: Allocator> Held<A> {
         drop(mem::replace(&mut self.objects, without(objects, object)));
     }
 
-    /// Puts an object in the place of those that are there.
+    /// Replaces all objects by one, which is taken out of the option.
     fn put_alone(&mut self, object: &mut Option<Term<A>>)
         requires { IsSome object.old }
         ensures done { self.new ≡ unwrap_or object.old nil ∷ [] }
@@ -217,7 +225,7 @@ impl<A: Allocator> Held<A> {
         drop(mem::replace(&mut self.objects, Objects::One(taken(object))));
     }
 
-    /// Whether an object is equal to one that is there.
+    /// Returns whether the object in the option is equal to one that is there.
     fn has_put(&self, object: &Option<Term<A>>) -> bool
         requires { IsSome object.now }
         ensures { result ≡ list_any (is_same (unwrap_or object.now nil)) self.now }
@@ -232,7 +240,7 @@ impl<A: Allocator> Held<A> {
 impl<A: Allocator + Copy> Held<A> {
     ghost use Rattle.part_core.specs.Rows.{is_empty};
 
-    /// Puts a second object behind the one that is there alone.
+    /// Appends a second object to the only one that is there. If an allocation fails, nothing is changed.
     fn put_second(&mut self, alloc: A, object: &mut Option<Term<A>>) -> Result<(), AllocError>
         requires { IsSome object.old }
         ensures done { OnOk result ((first : Datum) → self.old ≡ first ∷ []
@@ -248,8 +256,9 @@ impl<A: Allocator + Copy> Held<A> {
         Ok(())
     }
 
-    /// Puts an object behind those that are there.
-    fn put_behind(&mut self, alloc: A, object: &mut Option<Term<A>>) -> Result<(), AllocError>
+    /// Appends an object, and takes it out of the option. If an allocation fails, nothing is changed; this can only
+    /// happen if there is an object already.
+    fn put_last(&mut self, alloc: A, object: &mut Option<Term<A>>) -> Result<(), AllocError>
         requires { IsSome object.old }
         ensures done { OnOk result (self.new ≡ self.old ++ unwrap_or object.old nil ∷ []) }
         ensures spent { OnOk result (object.new ≡ None) }
@@ -267,8 +276,9 @@ impl<A: Allocator + Copy> Held<A> {
         }
     }
 
-    /// Puts an object in: in a set in the place of those that are there, in a bag behind them, unless one is equal to
-    /// it. Memory is wanted only where there is one.
+    /// Inserts an object, and takes it out of the option: in a set it replaces the object that is there; in a bag it is
+    /// appended unless an equal one is there; in a duplicate bag it is appended. If an allocation fails, nothing is
+    /// changed; this can only happen if there is an object already.
     pub fn put(
         &mut self,
         alloc: A,
@@ -292,13 +302,13 @@ impl<A: Allocator + Copy> Held<A> {
                     drop(object.take());
                     return Ok(());
                 }
-                self.put_behind(alloc, object)
+                self.put_last(alloc, object)
             }
-            TableKind::DuplicateBag => self.put_behind(alloc, object),
+            TableKind::DuplicateBag => self.put_last(alloc, object),
         }
     }
 
-    /// Puts copies of the objects behind others.
+    /// Appends copies of the objects to `into`. Fails if an allocation fails; some of them may then have been appended.
     pub fn copy_into(&self, into: &mut Vec<Term<A>, A>) -> Result<(), AllocError>
         ensures { IfOk result (λ _. into.new.items ≡ into.old.items ++ self.now) }
     {
@@ -308,7 +318,7 @@ impl<A: Allocator + Copy> Held<A> {
         Ok(())
     }
 
-    /// Copies of the objects in a list.
+    /// Returns copies of the objects as a list. Fails if an allocation fails.
     pub fn objects(&self, alloc: A) -> Result<Vec<Term<A>, A>, AllocError>
         ensures { IfOk result (λ objects. objects.items ≡ self.now) }
     {
@@ -317,7 +327,7 @@ impl<A: Allocator + Copy> Held<A> {
         Ok(objects)
     }
 
-    /// The objects of a list.
+    /// Makes the held objects of a list, in its order. Fails if an allocation fails; up to one object needs none.
     pub fn from_list(alloc: A, list: Vec<Term<A>, A>) -> Result<Self, AllocError>
         ensures { IfOk result (λ held. held ≡ list.items) }
     {

@@ -5,8 +5,8 @@ ghost use Rattle.mcode.specs.Machine.{field_of};
 use std::alloc::Allocator;
 use term_core::Term;
 
-/// The key of an object, the element at `keypos`, which is counted from 1; none of a term that is no object: no
-/// tuple, or one of fewer elements.
+/// Returns the key of an object: the element at `keypos`, which is counted from 1. Returns `None` if the term is not an
+/// object, i.e. no tuple, or one with fewer elements.
 pub fn key_in<A: Allocator>(keypos: u16, object: &Term<A>) -> Option<&Term<A>>
     ensures { MatchOption result (field_of keypos object.now ≡ None)
         (λ key. field_of keypos object.now ≡ Some key.now) }

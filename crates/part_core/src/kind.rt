@@ -2,28 +2,28 @@
 ghost use Rattle.std.specs.Prelude.{◌≡◌};
 ghost use Rattle.part_core.specs.Settings.{is_ordered, is_set};
 
-/// What a table holds of a key, and the order in which it is walked (STDLIB Reference Manual, ets:new/2).
+/// What a table holds at a key, and the order in which it is walked (STDLIB Reference Manual, ets:new/2).
 #[derive(Clone, Copy, Debug, PartialEq, Eq)]
 pub enum TableKind {
-    /// At most one object a key; walked by class, then by the age of rows.
+    /// At most one object per key; walked class by class, then in the order in which rows were created.
     Set,
-    /// At most one object a key; walked by rising key.
+    /// At most one object per key; walked in ascending key order.
     OrderedSet,
-    /// Any number of objects a key, no two of them equal.
+    /// Any number of objects per key, no two of them equal.
     Bag,
-    /// Any number of objects a key.
+    /// Any number of objects per key.
     DuplicateBag,
 }
 
 impl TableKind {
-    /// Whether the table is walked by key.
+    /// Returns whether the table is walked in key order.
     pub fn is_ordered(self) -> bool
         ensures { result ≡ is_ordered self }
     {
         matches!(self, TableKind::OrderedSet)
     }
 
-    /// Whether the table holds at most one object a key.
+    /// Returns whether the table holds at most one object per key.
     pub fn is_set(self) -> bool
         ensures { result ≡ is_set self }
     {

@@ -6,13 +6,13 @@ pub fn content_is_that_of_the_rows()
     ensures { ContentIsThatOfTheRows }
 {}
 
-/// A part at which only objects of its keys are put in has none of another key.
+/// A part at which only objects of its own keys are inserted has no object of another key.
 pub fn none_elsewhere()
     ensures { NoneElsewhere }
 {}
 
-/// A visit that was answered could look there, and says what its query answers for the keys that it covers, on their
-/// content before it.
+/// A visit that was not refused could look at its scope. It returns the query's answers for the keys that it covers, on
+/// their content before the visit.
 pub fn visits_answer_their_cover()
     ensures { VisitsAnswerTheirCover }
 {}
@@ -22,7 +22,7 @@ pub fn visits_move_on()
     ensures { VisitsMoveOn }
 {}
 
-/// Where a walk goes on behind an answered visit.
+/// Where a walk goes on after a visit that was not refused: at the next class, after a further key, or nowhere.
 pub fn visits_lead()
     ensures { VisitsLead }
 {}
@@ -37,18 +37,18 @@ pub fn cursors_stay_inside()
     ensures { CursorsStayInside }
 {}
 
-/// No key has two rows, those of an ordered set rise, each object stands at its key, dead rows stay only under a fix,
-/// and without one the base is the number of slots.
+/// No key has two rows, and those of an ordered set are in ascending key order. Each object is at its key. Dead rows
+/// stay only under a fix. Without a fix the base is the number of slots.
 pub fn states_are_kept()
     ensures { StatesAreKept }
 {}
 
-/// The counts of fixes are those of the history.
+/// The counts of fixes in a part's state are those of its history.
 pub fn fixes_are_counted()
     ensures { FixesAreCounted }
 {}
 
-/// A part that a session fixes is fixed.
+/// A part that some session fixes is fixed.
 pub fn fixes_show()
     ensures { FixesShow }
 {}
@@ -63,7 +63,7 @@ pub fn fixed_rows_stay()
     ensures { FixedRowsStay }
 {}
 
-/// A right entry goes on a legal history.
+/// A legal history with a right entry appended is legal.
 pub fn legal_goes_on()
     ensures { LegalGoesOn }
 {}

@@ -1,15 +1,16 @@
-//! One part of a table: its definitions, and the contract that every part keeps.
+//! One part of a table: its definitions, and the contract that every part satisfies.
 //!
 //! The one contract: each `apply` of a `Part` adds an entry to the part's history, and the history stays legal
 //! (`specs/Legal.antt`): each answer is that of the state before it (`reply_of` of `specs/Replies.antt`), and `after`
-//! of `specs/After.antt` says what it leaves. What is refused is handed back, and want of memory leaves no entry.
+//! of `specs/After.antt` says what state it leaves. A rejected operation is handed back, and one that runs out of
+//! memory leaves no entry.
 //!
-//! - `kind`, `settings`: what a table holds of a key, and what all its parts have in common.
-//! - `op`, `reply`, `fault`: what a session asks of a part, and what it is answered; `specs/Ops.antt` says what these
-//!   stand for in a history. `entry`: an entry, as contracts see it.
-//! - `part`: the trait. `fixes`, `held`, `key`, `room`, `slots`: what the parts that keep it have in common.
-//! - `laws`: that the content of a history is that of the rows, that a visit answers for the keys that it covers,
-//!   what holds of every state and what stays while a part is fixed.
+//! - `kind`, `settings`: what a table holds at a key, and the settings that all its parts share.
+//! - `op`, `reply`, `fault`: what a session requests of a part, and what it gets; `specs/Ops.antt` says what these mean
+//!   in a history. `entry`: an entry, as contracts see it.
+//! - `part`: the trait. `fixes`, `held`, `key`, `room`, `slots`: what the implementations of the trait share.
+//! - `laws`: that the content of a history is that of the rows, that a visit answers for the keys that it covers, what
+//!   holds of every state, and what stays while a part is fixed.
 #![tactic(auto)]
 
 mod entry;

@@ -1,9 +1,9 @@
-//! What a session asks of a part.
+//! The operations of a part.
 use std::alloc::{Allocator, Global};
 use term_core::Term;
 use verifier::Verified;
 
-/// The most rows that a visit of an ordered set looks at.
+/// The greatest number of rows that a visit of an ordered set looks at.
 pub const MOST_ROWS: usize = 64;
 
 /// Where a walk goes on.
@@ -11,70 +11,70 @@ pub const MOST_ROWS: usize = 64;
 pub enum Cursor<A: Allocator = Global> {
     /// At a class of a set.
     Class {
-        /// How many classes the walk goes over: 8, 16, 32 and so on up to 65,536.
+        /// The number of classes that the walk goes over: 8, 16, 32 and so on up to 65,536.
         base: u32,
         /// The class, from 0.
         class: u32,
     },
-    /// Behind a key of an ordered set.
+    /// After a key of an ordered set.
     Behind(Term<A>),
 }
 
 /// What a visit looks at.
 #[derive(Clone, Copy)]
 pub enum Scope<'a, A: Allocator = Global> {
-    /// Where a walk begins.
+    /// The beginning of a walk.
     Begin,
-    /// Where it goes on.
+    /// The place where a walk goes on.
     After(&'a Cursor<A>),
     /// One key.
     Named(&'a Term<A>),
 }
 
-/// What a visit is asked.
+/// What a visit has to do.
 #[derive(Clone, Copy)]
 pub struct Look<'a, A: Allocator = Global> {
     /// The query's code.
     pub code: &'a Verified<A>,
-    /// Where it looks.
+    /// Where to look.
     pub scope: Scope<'a, A>,
-    /// How many answers are wanted, at least 1.
+    /// The target: the number of answers after which the visit may stop, at least 1.
     pub wanted: u64,
 }
 
-/// An operation at a part. An object that is put in is taken out of the operation; one that holds none is refused as
-/// a term that is no object.
+/// An operation at a part. An insertion takes its object out of the operation. An insertion without an object is
+/// rejected like a term that is no object.
 #[derive(Drop)]
 pub enum PartOp<'a, A: Allocator = Global> {
-    /// Puts an object in, in a set in the place of the one with its key.
+    /// Inserts an object; in a set it replaces the one with its key.
     Insert(Option<Term<A>>),
-    /// Puts an object in if its key has none.
+    /// Inserts an object if its key has none.
     InsertNew(Option<Term<A>>),
-    /// The objects of a key.
+    /// Returns the objects of a key.
     Lookup(&'a Term<A>),
-    /// Whether a key has an object.
+    /// Returns whether a key has an object.
     Member(&'a Term<A>),
     /// Deletes the objects of a key.
     Delete(&'a Term<A>),
-    /// Deletes the objects that are equal to one.
+    /// Deletes the objects that are equal to the given one.
     DeleteObject(&'a Term<A>),
-    /// Deletes the objects of a key and answers them.
+    /// Deletes the objects of a key and returns them.
     Take(&'a Term<A>),
-    /// Fixes the part once more.
+    /// Adds a fix of the session to the part.
     Fix,
     /// Releases one fix of the session.
     Unfix,
     /// Releases all fixes of the session.
     Release,
-    /// The query's answers.
+    /// Returns the query's answers.
     Visit(Look<'a, A>),
-    /// How many objects answer true.
+    /// Returns the number of objects for which the query returns `true`.
     VisitCount(Look<'a, A>),
-    /// Deletes the objects that answer true, and counts them.
+    /// Deletes the objects for which the query returns `true`, and returns their number.
     VisitDelete(Look<'a, A>),
-    /// The first key in the order of a walk.
+    /// Returns the first key in walk order that has objects, or none.
     First,
-    /// The key behind one.
+    /// Returns the key after the given one in walk order that has objects, or none.
     Next(&'a Term<A>),
 }
 
@@ -82,7 +82,7 @@ impl<'a, A: Allocator> PartOp<'a, A> {
     ghost use Rattle.std.specs.Prelude.{◌≡◌};
     ghost use Rattle.part_core.specs.Ops.{object_in};
 
-    /// The object that is still in the operation.
+    /// Returns the object that is still in the operation, or `None` if there is none.
     pub fn into_object(self) -> Option<Term<A>>
         ensures { result ≡ object_in self.entry }
     {

@@ -1,4 +1,4 @@
-//! The contract that every part of a table keeps.
+//! The contract that every part of a table satisfies.
 ghost use Rattle.std.specs.Prelude.{ℕ, ◌≡◌, ◌≢◌, ◌<◌, ◌++◌, Bool, IsTrue, None, IfOk, IfErr, OnOk, IsErrOf, List, []};
 ghost use Rattle.part_core.specs.Acts.{Entry as PastEntry, IsAsked};
 ghost use Rattle.part_core.specs.Legal.{IsLegal, fix_count, state_after};
@@ -19,15 +19,16 @@ use term_core::Term;
 /// One part of a table. Each operation adds its entry to the part's history, which is legal: the answer is that of the
 /// state before it.
 pub trait Part<A: Allocator>: Sized {
-    /// The kinds of table that the part is made for.
+    /// The kinds of table that the part can be made for.
     ghost serves: { TableKind → Bool };
-    /// What was settled when it was made.
+    /// The settings that the part was made with.
     ghost settings: { Self → Settings };
     /// The part is in the state after this history.
     ghost is_after: { Self → List PastEntry → Type 0 };
 
-    /// A part without rows. Refused where the part doesn't serve the kind or a number is outside its range: keypos
-    /// from 1 to 65,535, 1 to 64 parts, 1 to 16 sessions.
+    /// Makes a part without rows. Fails with `BadOptions` if the part does not serve the kind or a number is outside
+    /// its range: `keypos` from 1 to 65,535, 1 to 64 parts, 1 to 16 sessions. Fails with `Memory` if an allocation
+    /// fails.
     fn make(
         alloc: A,
         kind: TableKind,
@@ -42,8 +43,8 @@ pub trait Part<A: Allocator>: Sized {
         ensures scarce { IsErrOf result OpenFault.Memory
             → IsServed serves (settings_with kind keypos parts sessions) };
 
-    /// Does an operation for a session. What is done is spent: nothing of its object is left in it. What is refused
-    /// stays as it was, and so does the part; want of memory leaves no entry.
+    /// Performs an operation for a session, which is below the number of sessions. If it succeeds, no object is left in
+    /// `op`. If it fails, `op` and the part are as they were. Running out of memory leaves no entry in the history.
     fn apply<'a>(&mut self, session: u8, op: &mut PartOp<'a, A>) -> Result<Reply<A>, Fault>
         requires session { session < (settings self.old).sessions }
         requires asked { IsAsked (act_of op.old) }
@@ -55,12 +56,12 @@ pub trait Part<A: Allocator>: Sized {
         ensures sure { IsTrue (takes_no_memory (act_of op.old))
             → IfErr result (λ fault. fault ≢ Fault.Memory) };
 
-    /// How often a session fixes the part.
+    /// Returns how many times a session fixes the part.
     fn fixes(&self, session: u8) -> u16
         requires { session < (settings self.now).sessions }
         ensures { (log : List PastEntry) → is_after self.now log → result ≡ fix_count session log };
 
-    /// The objects, in the order of a walk.
+    /// Returns copies of the objects, in walk order. Fails if an allocation fails.
     fn objects(&self, alloc: A) -> Result<Vec<Term<A>, A>, AllocError>
         ensures { IfOk result (λ objects. (log : List PastEntry) → is_after self.now log
             → objects.items ≡ walked_objects (settings self.now) (state_after (settings self.now) log)) };

@@ -3,7 +3,7 @@ ghost use Rattle.std.specs.Prelude.{vec_len, vec_capacity, ◌≡◌, ◌<◌, [
 
 use std::alloc::Allocator;
 
-/// Puts what there is room for behind the others.
+/// Appends a value to a list that has room for it. It does not allocate.
 pub fn push_within<T, A: Allocator>(list: &mut Vec<T, A>, value: T)
     requires { vec_len list.old < vec_capacity list.old }
     ensures { list.new.items ≡ list.old.items ++ value ∷ [] }

@@ -1,4 +1,4 @@
--- What each operation is answered and leaves, by what its rows show; and that it goes on the part's history.
+-- What each operation answers and leaves, depending on what its rows show; and that it continues the part's history.
 use Rattle.std.proofs.Common.{◌≡◌, ℕ, ◌<◌, ◌≤◌, ◌+◌, ◌-◌, List, [], ◌∷◌, ◌++◌, refl, ap, sym, subst, ◌∙◌, set, get_or, length, arith, lt-ltb}
 use Rattle.std.specs.Prelude.{Bool, true, false, not, ◌||◌, nat_lt, if◌then◌else◌, Option, Some, None, is_some, Result, Ok, Err, filter}
 use Rattle.std.proofs.lemmas.Bool.{le-ltb}
@@ -24,7 +24,7 @@ use Rattle.part_core.specs.Ops.{answer_in, entries_made}
 use Rattle.part_core.specs.Replies.{reply_of, first_live, fixes_of, rows_past}
 use Rattle.part_core.specs.Rows.{Row, PartState, opening, is_empty, is_fixed, is_live, has_row, objects_at, objects_without, rows_at_key}
 use Rattle.part_core.specs.States.{IsState}
-use Rattle.part_core.specs.Visits.{rows_behind, walk_order}
+use Rattle.part_core.specs.Visits.{following_rows, walk_order}
 use Rattle.part_core.proofs.AfterLemmas.{kept_after, read_after, counted_after, put_after}
 use Rattle.part_core.proofs.HistoryLemmas.{state_more}
 use Rattle.part_core.proofs.KeyLemmas.{by_test}
@@ -40,11 +40,11 @@ use Rattle.part_engine.specs.Stored.{IsAfter, Leads}
 use Rattle.part_engine.specs.declared.stored.StoredPart.{StoredPart}
 use Rattle.part_engine.proofs.SweepLemmas.{exchanged}
 
--- an operation is answered so, and leaves such a state
+-- an operation has this answer and leaves this state
 abbrev pub Says : Settings → PartState → ℕ → Act → Answer → PartState → Type 0
 Says o s n act answer t = (answer ≡ reply_of o s n act) × (t ≡ after o s n act)
 
--- rows of a state
+-- the rows of a state are sound
 pub sound : (o : Settings) (w : Shown) (fixes : List ℕ) (base : ℕ) → IsState o (state_of w fixes base) → AreSound o w
 sound o w fixes base state = record { rows = state.rows; each = state.each }
 
@@ -65,7 +65,7 @@ unfolding reply_of
 first_says o w fixes base n key state is =
     (ap (λ k. Replied (AtKey k)) is, sym (read_after o (state_of w fixes base) n First _ state refl refl refl))
 
-pub next_says : (o : Settings) (w : Shown) (fixes : List ℕ) (base n : ℕ) (k : Datum) (key : Option Datum) → IsState o (state_of w fixes base) → (is_ordered o.kind || has_row w.rows k) ≡ true → key ≡ first_live (if is_ordered o.kind then rows_behind k w.rows else rows_past k (walk_order o base w.rows)) → Says o (state_of w fixes base) n (Next k) (Replied (AtKey key)) (state_of w fixes base)
+pub next_says : (o : Settings) (w : Shown) (fixes : List ℕ) (base n : ℕ) (k : Datum) (key : Option Datum) → IsState o (state_of w fixes base) → (is_ordered o.kind || has_row w.rows k) ≡ true → key ≡ first_live (if is_ordered o.kind then following_rows k w.rows else rows_past k (walk_order o base w.rows)) → Says o (state_of w fixes base) n (Next k) (Replied (AtKey key)) (state_of w fixes base)
 unfolding reply_of
 next_says o w fixes base n k key state there is = (
   by_test (is_ordered o.kind) _
@@ -91,7 +91,7 @@ next_refused o w fixes base n k missing =
 few_at : (k : Datum) (f : List Datum → List Datum) (rows : List Row) → length (rows_at_key k f rows) ≤ length rows
 few_at k f rows = omega (arith, length-map {B = Row} rows (λ (r : Row). (r.0, if is_same k r.0 then f r.1 else r.1)))
 
--- what is left where a key's objects become others
+-- the state that is left after the objects of a key are replaced
 exchanged_state : (o : Settings) (w : Shown) (fixes : List ℕ) (base : ℕ) (k : Datum) (f : List Datum → List Datum) → IsState o (state_of w fixes base) → state_of (shown_exchanged k (f (objects_at w.rows k)) (is_fixed fixes) w) fixes base ≡ record { rows = kept_rows fixes (rows_at_key k f w.rows); fixes = fixes; slots = w.slots; base = base }
 exchanged_state o w fixes base k f state =
     ap (λ (rows : List Row). record { rows = rows; fixes = fixes; slots = w.slots; base = base })
@@ -123,7 +123,7 @@ object_after o w fixes base n t k state is =
     ∙ kept_after o (state_of w fixes base) (rows_at_key (key_of o t) (objects_without t) w.rows) state (few_at (key_of o t) (objects_without t) w.rows)
     ∙ ap (λ j. record { rows = kept_rows fixes (rows_at_key j (objects_without t) w.rows); fixes = fixes; slots = w.slots; base = base }) (object_key o t k is).1
 
--- what was exchanged for nothing and then written is what was written at once
+-- exchanging a key's objects for none and writing the remaining ones afterwards equals one write
 pub delete_object_says : (o : Settings) (w : Shown) (fixes : List ℕ) (base n : ℕ) (t k : Datum) → IsState o (state_of w fixes base) → field_of o.keypos t ≡ Some k → Says o (state_of w fixes base) n (DeleteObject t) (Replied Nothing) (state_of (shown_exchanged k (objects_without t (objects_at w.rows k)) (is_fixed fixes) (shown_exchanged k [] true w)) fixes base)
 delete_object_says o w fixes base n t k state is = (
   sym (object_reply o (state_of w fixes base) n t k is),
@@ -131,7 +131,7 @@ delete_object_says o w fixes base n t k state is = (
       ∙ exchanged_state o w fixes base k (objects_without t) state ∙ sym (object_after o w fixes base n t k state is),
 )
 
--- a key without a row
+-- the answer and the state if the key has no row
 pub no_row_says : (o : Settings) (w : Shown) (fixes : List ℕ) (base n : ℕ) (t k : Datum) → IsState o (state_of w fixes base) → field_of o.keypos t ≡ Some k → has_row w.rows k ≡ false → Says o (state_of w fixes base) n (DeleteObject t) (Replied Nothing) (state_of (shown_exchanged k [] true w) fixes base)
 no_row_says o w fixes base n t k state is none = (
   sym (object_reply o (state_of w fixes base) n t k is),
@@ -146,7 +146,7 @@ no_object_says o s n t none =
     let refused : reply_of o s n (DeleteObject t) ≡ Refused TooSmall = rw no refl in
     (sym refused, sym (after_refused o s n (DeleteObject t) TooSmall refused))
 
--- ---- putting objects in
+-- ---- insertions
 
 as_before : (w : Shown) (old new : List ℕ) (base now : ℕ) → new ≡ old → now ≡ base → state_of w new now ≡ state_of w old base
 as_before w old new base now fixes is = ap (λ xs. state_of w xs now) fixes ∙ ap (state_of w old) is
@@ -190,7 +190,7 @@ insert_new_refused o s n t wrong =
     let refused : reply_of o s n (InsertNew t) ≡ Refused TooSmall = rw wrong refl in
     (sym refused, sym (after_refused o s n (InsertNew t) TooSmall refused))
 
--- what the rows refuse to put in is refused so by the part, which is as it was
+-- if the rows refuse an insertion, the part refuses it with the same reason, and is as it was
 pub put_refused : {R A B : Type 0} (shows : Settings → R → Shown → Type 0) (p q : StoredPart R A) (n : ℕ) (act : Act) (t : Datum) (why : PutFault) (result : Result (Reply B) Fault) → ((s : PartState) → is_object p.settings t ≡ false → Says p.settings s n act (Refused TooSmall) s) → (why ≡ NoObject → is_object p.settings t ≡ false) → ((w : Shown) → Keeps shows p.settings p.rows p.dead w → Keeps shows p.settings q.rows q.dead w) → q.fixes.items ≡ p.fixes.items → q.base ≡ p.base → result ≡ Err (fault_of why) → Leads shows p n act (answer_in result) q
 put_refused shows p q n act t Memory result says none kept fixes base is =
     subst (λ r. Leads shows p n act (answer_in r) q) (sym is) (λ w keeps. (w, kept w keeps, as_before w p.fixes.items q.fixes.items p.base q.base fixes base))
@@ -220,7 +220,7 @@ fix_refused o w fixes base n full =
     let refused : reply_of o (state_of w fixes base) n Fix ≡ Refused FixLimit = rw no refl in
     (sym refused, sym (after_refused o (state_of w fixes base) n Fix FixLimit refused))
 
--- what is left once counts were changed and rows settled
+-- the state that is left after counts were changed and rows settled
 abbrev pub settled_state : Shown → List ℕ → ℕ → PartState
 settled_state w counts base =
     state_of (shown_settled counts w) counts (if is_fixed counts then base else w.slots)
@@ -255,7 +255,7 @@ release_says o w fixes base n = (
 
 -- ---- histories
 
--- an answer goes on the history
+-- an answer continues the history
 step : {R A : Type 0} (shows : Settings → R → Shown → Type 0) (p q : StoredPart R A) (n : ℕ) (act : Act) (answer : Answer) (log : History) → StatesAreKept → LegalGoesOn → q.settings ≡ p.settings → n < p.settings.sessions → IsAsked act → Leads shows p n act (Some answer) q → IsAfter shows p log → IsAfter shows q (log ++ (record { session = n; act = act; answer = answer }) ∷ [])
 step shows p q n act answer log kept goes settings session asked leads now =
     let was : state_after p.settings log ≡ state_of now.shown p.fixes.items p.base = now.state in

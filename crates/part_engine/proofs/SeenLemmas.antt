@@ -1,4 +1,4 @@
--- How far a visit comes, and which rows it sees.
+-- How far a visit goes, and which rows it sees.
 use Rattle.std.proofs.Common.{◌≡◌, ℕ, zero, suc, ◌≤◌, ◌<◌, ◌+◌, ◌-◌, List, [], ◌∷◌, ◌++◌, refl, ap, sym, ◌∙◌, length, take, drop, get_or, sum_by, arith, append_assoc}
 use Rattle.std.specs.Prelude.{Bool, true, false, ◌&&◌, ◌||◌, ◌==◌, nat_le, if◌then◌else◌, Option, Some, None, option_map, slice_get}
 use Rattle.std.specs.List.{last_or}
@@ -12,12 +12,12 @@ use Rattle.part_core.specs.Acts.{Purpose, Scope}
 use Rattle.part_core.specs.Acts.Cursor.{Class, Behind}
 use Rattle.part_core.specs.Acts.Scope.{Begin, After, Named}
 use Rattle.part_core.specs.Rows.{Row, PartState}
-use Rattle.part_core.specs.Visits.{most_rows, next_key, rows_up_to, rows_behind, visited_rows, next_of, answers_of}
+use Rattle.part_core.specs.Visits.{most_rows, next_key, rows_up_to, following_rows, visited_rows, next_of, answers_of}
 use Rattle.part_core.proofs.KeyLemmas.{by_test}
 use Rattle.part_rows.specs.Looks.{looked_at}
 use Rattle.part_engine.specs.Looks.{next_after, rows_until, stops}
 
--- at a place a visit has seen the rows before, and goes on with those from there, so many answers being still wanted
+-- at a place, a visit has seen the rows before it, and goes on with the rest, with a target of `wanting` more answers
 pub record Sees (stops : Bool) (answers : Row → ℕ) (wanted : ℕ) (rows : List Row) (place wanting : ℕ) : Type 0 where
   pub whole : rows_until stops answers wanted rows ≡ take place rows ++ rows_until stops answers wanting (drop place rows)
   pub left : wanting ≡ wanted - sum_by answers (take place rows)
@@ -30,7 +30,7 @@ pub record Saw (stops : Bool) (answers : Row → ℕ) (wanted : ℕ) (rows : Lis
 pub sees_none : (stops : Bool) (answers : Row → ℕ) (wanted : ℕ) (rows : List Row) → Sees stops answers wanted rows 0 wanted
 sees_none stops answers wanted rows = record { whole = refl; left = omega arith }
 
--- one more row
+-- what one more row takes from the target
 seen_left : (answers : Row → ℕ) (wanted : ℕ) (rows : List Row) (place left : ℕ) (r : Row) → place < length rows → r ≡ get_or rows place r → left ≡ wanted - sum_by answers (take place rows) → left - answers r ≡ wanted - sum_by answers (take (place + 1) rows)
 seen_left answers wanted rows place left r within is so_far =
     let sum : sum_by answers (take (place + 1) rows) ≡ sum_by answers (take place rows) + answers r = ap (sum_by answers) (take_more rows place r within ∙ ap (λ q. take place rows ++ q ∷ []) (sym is)) ∙ sum_by_push answers (take place rows) r in
@@ -118,7 +118,7 @@ visited o s purpose p (Named k) wanted =
 visited o s purpose p (After (Class base class)) wanted =
     sym (until_all (answers_of purpose p) wanted (looked_at o s.base (After (Class base class)) s.rows))
 visited o s purpose p (After (Behind k)) wanted =
-    until_up_to (answers_of purpose p) wanted 63 (rows_behind k s.rows)
+    until_up_to (answers_of purpose p) wanted 63 (following_rows k s.rows)
 visited o s purpose p Begin wanted =
     by_test (is_ordered o.kind) _
     (λ ordered. rw ordered (until_up_to (answers_of purpose p) wanted 63 s.rows))
@@ -130,7 +130,7 @@ goes_on o s purpose p (After (Class base class)) wanted = refl
 goes_on o s purpose p (After (Behind k)) wanted = refl
 goes_on o s purpose p Begin wanted = refl
 
--- where the walk goes on behind a visit that doesn't stop before its end depends on no row
+-- where the walk goes on after a visit that doesn't stop before its end depends on no row
 pub next_whole : (o : Settings) (base : ℕ) (scope : Scope) (answers : Row → ℕ) (wanted : ℕ) (rows others : List Row) → stops o scope ≡ false → next_after o base scope answers wanted rows ≡ next_after o base scope answers wanted others
 next_whole o base (Named k) answers wanted rows others whole = refl
 next_whole o base (After (Class other class)) answers wanted rows others whole = refl
@@ -138,7 +138,7 @@ next_whole o base (After (Behind k)) answers wanted rows others whole =
     absurd (true≢false whole)
 next_whole o base Begin answers wanted rows others whole = rw whole refl
 
--- and behind one that may stop on the last that it saw
+-- where the walk goes on after a visit that may stop depends on the last row that it saw
 pub next_stops : (o : Settings) (base : ℕ) (scope : Scope) (answers : Row → ℕ) (wanted : ℕ) (rows : List Row) → stops o scope ≡ true → next_after o base scope answers wanted rows ≡ next_key answers wanted rows
 next_stops o base (Named k) answers wanted rows stops = absurd (true≢false (sym stops))
 next_stops o base (After (Class other class)) answers wanted rows stops =
@@ -172,7 +172,7 @@ last_get : (before : Option Row) (r : Row) (rows : List Row) → slice_get (r �
 last_get before r [] = refl
 last_get before r (v ∷ rows) = last_get (Some r) v rows
 
--- what stands at the last place is the last
+-- the element at the last position is the last
 pub last_is : (rows : List Row) (r : Row) → Some r ≡ slice_get rows (length rows - 1) → Some r ≡ last_or None rows
 last_is [] r is = is
 last_is (v ∷ rows) r is =

@@ -1,4 +1,4 @@
--- What a part is made of may be sent to other threads: a ladder from terms up, since a term has terms in it and no search
+-- The fields of a part may be sent to other threads: a ladder from terms up, since a term contains terms and no search
 -- goes from a part down to them.
 use denote.RattleType.{RattleType}
 use denote.Param.Send.{IsSend, IsSync, Frees, sendable}
@@ -17,6 +17,6 @@ module _ (A : RattleType) (g : Ghosts A.Denot) (s : IsSend A) (y : IsSync A) (f 
   pub hashed_send : IsSend (hashed_row A g)
   hashed_send = search (sendable, crosses, term_send) depth 40
 
-  -- a part, where its rows may be
+  -- a part may be sent if its rows may
   pub part_send : (R : RattleType) → IsSend R → IsSend (stored_row R A g)
   part_send R r = search (sendable, crosses, stored.the_send) depth 40

@@ -1,4 +1,4 @@
--- Rows of tables that aren't walked by key.
+-- Rows of tables that aren't walked in key order.
 use Rattle.std.proofs.Common.{◌≡◌, ℕ, List, [], ◌∷◌, refl, ap, sym, ◌∙◌}
 use Rattle.std.specs.Prelude.{Bool, true, false, not, ◌&&◌, ◌||◌, IsTrue, filter}
 use Rattle.std.specs.List.{IsDistinct}
@@ -19,14 +19,14 @@ use Rattle.part_rows.specs.Shown.{rows_exchanged}
 pub use Rattle.part_rows.proofs.DeadLemmas.{stays, others_stay, exchanged_none}
 use Rattle.part_engine.specs.Sets.{serves}
 
--- a kind that is served is not walked by key
+-- a kind that is served is not walked in key order
 pub plain_served : (kind : TableKind) → IsTrue (serves kind) → is_ordered kind ≡ false
 plain_served Set h = refl
 plain_served OrderedSet h = cc
 plain_served Bag h = refl
 plain_served DuplicateBag h = refl
 
--- such tables get their slots as a set does
+-- the slots of such a table grow as those of a set
 pub plain_slots : (kind : TableKind) (before now slots : ℕ) → is_ordered kind ≡ false → slots_after kind before now slots ≡ slots_after Set before now slots
 plain_slots kind before now slots plain = rw plain refl
 
@@ -38,9 +38,9 @@ alone k (r ∷ rows) apart there =
     (λ here. rw here (ap (λ rs. r ∷ rs) (none_there k rows (no_other k r rows apart here)) ∙ ap (λ (j : Datum). (j, r.1) ∷ []) (sym (same_is k r.0 here))))
     (λ other. rw other (alone k rows (IsDistinct-tail is_same r.0 (keys_of rows) apart) (rw other at there)))
 
--- ---- what is held of a key exchanged
+-- ---- exchanging the objects of a key
 
--- objects written through what a look-up lent
+-- writing objects through the result of a look-up replaces those of the key
 pub written : (k : Datum) (os : List Datum) (rows : List Row) → IsDistinct is_same (keys_of rows) → set_value (is_same k) rows os ≡ rows_at_key k (λ _. os) rows
 written k os [] d = refl
 written k os (r ∷ rows) d =
@@ -48,7 +48,7 @@ written k os (r ∷ rows) d =
     (λ there. rw there (ap (λ rs. (r.0, os) ∷ rs) (sym (unwritten k (λ _. os) rows (no_other k r rows d there)))))
     (λ other. rw other (ap (λ rs. r ∷ rs) (written k os rows (IsDistinct-tail is_same r.0 (keys_of rows) d))))
 
--- a row that is taken out, the others stay, dead or live
+-- removing the row of a key keeps all other rows, dead or live
 removed : (k : Datum) (rows : List Row) → IsDistinct is_same (keys_of rows) → remove_entry (is_same k) rows ≡ filter (λ r. not (is_same k r.0) || is_live r) (rows_at_key k (λ _. []) rows)
 removed k [] d = refl
 removed k (r ∷ rows) d =

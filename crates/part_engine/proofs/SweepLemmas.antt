@@ -1,4 +1,4 @@
--- What exchanging what is held of keys makes of rows.
+-- How exchanging the objects of keys changes rows.
 use Rattle.std.proofs.Common.{◌≡◌, ℕ, List, [], ◌∷◌, refl, ap, sym, ◌∙◌}
 use Rattle.std.specs.Prelude.{Bool, true, false, not, ◌||◌, if◌then◌else◌, Option, Some, None, option_map, unwrap_or, is_some, IsTrue, filter, All}
 use Rattle.std.specs.List.{IsDistinct, list_any}
@@ -27,7 +27,7 @@ use Rattle.part_engine.specs.Deletions.{rows_left, rows_swept}
 
 -- ---- one key
 
--- where all rows were live, only the key's row can go
+-- if all rows were live, only the key's row can be removed
 exchanged_live : (k : Datum) (os : List Datum) (rows : List Row) → All (λ r. IsTrue (is_live r)) rows → filter (λ r. not (is_same k r.0) || is_live r) (rows_at_key k (λ _. os) rows) ≡ filter is_live (rows_at_key k (λ _. os) rows)
 exchanged_live k os [] live = refl
 exchanged_live k os (r ∷ rows) live =
@@ -40,7 +40,7 @@ pub exchanged : (k : Datum) (os : List Datum) (fixes : List ℕ) (rows : List Ro
 exchanged k os fixes rows live =
     by_test (is_fixed fixes) _ (λ fixed. rw fixed refl) (λ free. rw free (exchanged_live k os rows (live free)))
 
--- rows stay such as a state has
+-- an exchange keeps rows sound
 pub exchanged_sound : (o : Settings) (w : Shown) (k : Datum) (os : List Datum) (keeps : Bool) → AreSound o w → IsRow o (k, os) → AreSound o (shown_exchanged k os keeps w)
 exchanged_sound o w k os keeps sound row = of keeps
   where
@@ -59,7 +59,7 @@ exchanged_sound o w k os keeps sound row = of keeps
 
 -- ---- keys one after the other
 
--- the objects of a key by other rows, where these have it
+-- the objects of a key: those of other rows if these have the key, else its own
 abbrev pub over : List Row → Datum → List Datum → List Datum
 over left k os = unwrap_or (lookup (is_same k) left) os
 
@@ -67,7 +67,7 @@ over_none : (rows : List Row) → rows_by (over []) rows ≡ rows
 over_none [] = refl
 over_none (r ∷ rows) = ap (λ rs. r ∷ rs) (over_none rows)
 
--- what a row gets by one more row, whose key the others haven't got
+-- what one more row gives to its key, which the others don't have
 over_here : (v : Row) (left : List Row) (k : Datum) (os : List Datum) → has_row left v.0 ≡ false → is_same v.0 k ≡ true → (over left k v.1 ≡ v.1) × (over (v ∷ left) k os ≡ v.1)
 over_here v left k os none same =
     let back : is_same k v.0 ≡ true = same_keys.symm k v.0 ∙ same in
@@ -123,14 +123,14 @@ swept_live (v ∷ left) rows d live =
     ∙ swept_live left (filter is_live (rows_at_key v.0 (λ _. v.1) rows)) (IsDistinct-tail is_same v.0 (keys_of left) d) (filter_passes is_live (rows_at_key v.0 (λ _. v.1) rows))
     ∙ live_more v left rows (apart v.0 left (IsDistinct-head is_same v.0 (keys_of left) d)) live
 
--- ---- what is left where objects that answer true go
+-- ---- what is left after objects for which the query returns true are deleted
 
 filter_none : (q : Datum → Bool) (os : List Datum) → list_any q os ≡ false → filter (λ t. not (q t)) os ≡ os
 filter_none q [] none = refl
 filter_none q (t ∷ os) none =
     by_test (q t) _ (λ holds. absurd (true≢false (rw holds at none))) (λ fails. rw fails (ap (λ us. t ∷ us) (filter_none q os (rw fails at none))))
 
--- what is found of a key among the rows that are left, of those that a test of keys picks out
+-- the look-up of a key among what is left of the rows that a test of keys selects
 left_at : (p : Program) (c : Datum → Bool) (k : Datum) (rows : List Row) → IsDistinct is_same (keys_of rows) → lookup (is_same k) (rows_left p (filter (λ r. c r.0) rows)) ≡ option_map (filter (λ t. not (is_true p t))) (option_filter (list_any (is_true p)) (if c k then lookup (is_same k) rows else None))
 left_at p c k rows d =
     lookup_by (λ _ os. filter (λ t. not (is_true p t)) os) k (filter (λ r. list_any (is_true p) r.1) (filter (λ r. c r.0) rows))
@@ -148,7 +148,7 @@ found_at rows k os there is = of (lookup (is_same k) rows) there is
     of None h e = cc
     of (Some us) h e = ap Some e
 
--- rows that are each found among others
+-- rows that are each found among all rows are left like those
 left_rows : (p : Program) (c : Datum → Bool) (all rows : List Row) → IsDistinct is_same (keys_of all) → All (λ r. IsTrue (has_row all r.0)) rows → All (λ r. objects_at all r.0 ≡ r.1) rows → rows_by (over (rows_left p (filter (λ r. c r.0) all))) rows ≡ rows_without_true p (keys_of (filter (λ r. c r.0) all)) rows
 left_rows p c all [] d there found = refl
 left_rows p c all (r ∷ rows) d there found =
@@ -166,7 +166,7 @@ left_distinct p c rows d =
     rw (keys_by (λ _ os. filter (λ t. not (is_true p t)) os) (filter (λ r. list_any (is_true p) r.1) (filter (λ r. c r.0) rows)))
     (IsDistinct-keys_filter is_same (λ (r : Row). list_any (is_true p) r.1) (filter (λ r. c r.0) rows) (IsDistinct-keys_filter is_same (λ (r : Row). c r.0) rows d))
 
--- what a visit that deletes leaves
+-- the rows that a visit that deletes leaves
 pub swept : (p : Program) (c : Datum → Bool) (fixes : List ℕ) (rows : List Row) → IsDistinct is_same (keys_of rows) → (is_fixed fixes ≡ false → All (λ r. IsTrue (is_live r)) rows) → rows_swept (is_fixed fixes) (rows_left p (filter (λ r. c r.0) rows)) rows ≡ kept_rows fixes (rows_without_true p (keys_of (filter (λ r. c r.0) rows)) rows)
 swept p c fixes rows d live =
     let all = left_rows p c rows rows d (rows_there rows) (rows_found rows d) in

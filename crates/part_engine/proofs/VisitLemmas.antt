@@ -1,4 +1,4 @@
--- What visits are answered and leave, by the rows that they saw.
+-- What visits answer and leave, depending on the rows that they saw.
 use Rattle.std.proofs.Common.{◌≡◌, ℕ, ◌≤◌, ◌<◌, ◌+◌, ◌-◌, List, [], ◌∷◌, ◌++◌, refl, ap, sym, subst, ◌∙◌, length, take, get_or, arith, append_assoc, length-append}
 use Rattle.std.specs.Prelude.{Bool, true, false, not, ◌&&◌, ◌==◌, min, if◌then◌else◌, Option, filter, map, All}
 use Rattle.std.specs.List.{list_any}
@@ -46,7 +46,7 @@ found_next purpose p rows place r held initial before after within is own so_far
     ∙ append_assoc initial (yield_of_rows purpose p (take place rows)) (yields purpose p r.1)
     ∙ ap (λ xs. initial ++ xs) (sym (yield_next purpose p rows place r within is))
 
--- a total that is kept within what is counted
+-- a total that is limited to the greatest number that is counted
 pub total_next : (purpose : Purpose) (p : Program) (rows : List Row) (place : ℕ) (r : Row) (held : List Datum) (before count after : ℕ) → place < length rows → r ≡ get_or rows place r → held ≡ r.1 → count ≡ length (yields purpose p held) → before ≡ min (length (yield_of_rows purpose p (take place rows))) most_counted → after ≡ min (before + count) most_counted → after ≡ min (length (yield_of_rows purpose p (take (place + 1) rows))) most_counted
 total_next purpose p rows place r held before count after within is own given so_far more =
     let sum : length (yield_of_rows purpose p (take (place + 1) rows)) ≡ length (yield_of_rows purpose p (take place rows)) + length (yields purpose p r.1) = ap length (yield_next purpose p rows place r within is) ∙ length-append (yield_of_rows purpose p (take place rows)) (yields purpose p r.1) in
@@ -55,7 +55,7 @@ total_next purpose p rows place r held before count after within is own given so
     capped : (sum more before after most whole : ℕ) → before ≡ min sum most → after ≡ min (before + more) most → whole ≡ sum + more → after ≡ min whole most
     capped sum more before after most whole a b c = omega (arith, a, b, c)
 
--- ---- how far a visit comes
+-- ---- how far a visit goes
 
 pub sees_next : (stops : Bool) (purpose : Purpose) (p : Program) (wanted : ℕ) (rows : List Row) (place wanting later count : ℕ) (r : Row) (held : List Datum) → place < length rows → r ≡ get_or rows place r → held ≡ r.1 → count ≡ length (yields purpose p held) → later ≡ wanting - count → Sees stops (answers_of purpose p) wanted rows place wanting → (stops && (later == 0)) ≡ false → Sees stops (answers_of purpose p) wanted rows (place + 1) later
 sees_next stops purpose p wanted rows place wanting later count r held within is own given less s going =

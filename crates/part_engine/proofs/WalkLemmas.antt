@@ -1,4 +1,4 @@
--- The order of a walk, class by class, and what is behind a key.
+-- Walk order, class by class, and what comes after a key.
 use Rattle.std.proofs.Common.{◌≡◌, ℕ, ◌<◌, ◌≤◌, ◌+◌, ◌-◌, zero, suc, List, [], ◌∷◌, ◌++◌, refl, ap, sym, ◌∙◌, arith, append_assoc, eq-eqb}
 use Rattle.std.specs.Prelude.{Bool, true, false, ◌==◌, if◌then◌else◌, Option, None, is_some, flat_map}
 use Rattle.std.specs.List.{range_with_len}
@@ -30,14 +30,14 @@ rows_none o base class rows past =
     let none : base - class ≡ 0 = omega arith in
     ap (λ n. flat_map (λ c. in_class o base c rows) (range_with_len class n)) none
 
--- a table that isn't walked by key is walked from its first class on
+-- a table that isn't walked in key order is walked from its first class on
 pub walk_unordered : (o : Settings) (base : ℕ) (rows : List Row) → is_ordered o.kind ≡ false → rows_from o base 0 rows ≡ walk_order o base rows
 unfolding walk_order
 walk_unordered o base rows kind =
     let all : base - 0 ≡ base = omega arith in
     rw kind (ap (λ n. flat_map (λ c. in_class o base c rows) (range_with_len 0 n)) all)
 
--- ---- behind a key
+-- ---- after a key
 
 past_skip : (k : Datum) (xs ys : List Row) → has_row xs k ≡ false → rows_past k (xs ++ ys) ≡ rows_past k ys
 past_skip k [] ys none = refl
@@ -75,9 +75,9 @@ past_here o base k before row after more none there =
     ∙ past_skip k (in_class o base (class_at o base k) before) (row ∷ in_class o base (class_at o base k) after ++ more) (none_filtered o base (class_at o base k) k before none)
     ∙ rw there refl
 
--- the rows behind that of a key are those of its class made after it, and those of the classes above
-pub walk_behind : (o : Settings) (base : ℕ) (k : Datum) (rows before : List Row) (row : Row) (after : List Row) → is_ordered o.kind ≡ false → class_at o base k < base → rows ≡ before ++ row ∷ after → has_row before k ≡ false → is_same k row.0 ≡ true → rows_past k (walk_order o base rows) ≡ in_class o base (class_at o base k) after ++ rows_from o base (class_at o base k + 1) rows
-walk_behind o base k rows before row after kind below whole first there =
+-- the rows after that of a key are those of its class created after it, and those of the classes above
+pub walk_after : (o : Settings) (base : ℕ) (k : Datum) (rows before : List Row) (row : Row) (after : List Row) → is_ordered o.kind ≡ false → class_at o base k < base → rows ≡ before ++ row ∷ after → has_row before k ≡ false → is_same k row.0 ≡ true → rows_past k (walk_order o base rows) ≡ in_class o base (class_at o base k) after ++ rows_from o base (class_at o base k + 1) rows
+walk_after o base k rows before row after kind below whole first there =
     ap (rows_past k) (sym (walk_unordered o base rows kind))
     ∙ past_classes o base k rows (class_at o base k) 0 (omega arith) below
     ∙ ap (rows_past k) (rows_step o base (class_at o base k) rows below)

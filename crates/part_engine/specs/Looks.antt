@@ -12,14 +12,14 @@ use Rattle.part_core.specs.Rows.{Row}
 use Rattle.part_core.specs.Visits.{answers_of, next_class, next_key, yield_of_rows}
 use Rattle.part_rows.specs.Looks.{looked_at}
 
--- a visit stops once it has the answers that are wanted: one of an ordered set, but for a named key
+-- a visit stops once it has reached its target: only one of an ordered set that is not for a named key
 abbrev pub stops : Settings → Scope → Bool
 stops o (Named k) = false
 stops o (After (Class base class)) = false
 stops o (After (Behind k)) = true
 stops o Begin = is_ordered o.kind
 
--- where the walk goes on behind rows that a visit saw
+-- where the walk goes on after the rows that a visit saw
 abbrev pub next_after : Settings → ℕ → Scope → (Row → ℕ) → ℕ → List Row → Option Cursor
 next_after o base (Named k) answers wanted rows = None
 next_after o base (After (Class other class)) answers wanted rows = next_class other class
@@ -27,7 +27,7 @@ next_after o base (After (Behind k)) answers wanted rows = next_key answers want
 next_after o base Begin answers wanted rows =
     if is_ordered o.kind then next_key answers wanted rows else next_class base 0
 
--- the rows until there are the answers that are wanted, where it stops, else all
+-- the rows until the target is reached if the visit stops there, else all
 unfoldable pub rows_until : Bool → (Row → ℕ) → ℕ → List Row → List Row
 rows_until stops answers wanted [] = []
 rows_until stops answers wanted (r ∷ rs) =
@@ -38,12 +38,12 @@ abbrev pub seen_from : Purpose → Settings → ℕ → Program → Scope → �
 seen_from purpose o base p scope wanted rows =
     rows_until (stops o scope) (answers_of purpose p) wanted (looked_at o base scope rows)
 
--- what a visit that answers has found, and where the walk goes on
+-- what a visit that returns answers has found, and where the walk goes on
 pub record IsFound (purpose : Purpose) (o : Settings) (base : ℕ) (p : Program) (scope : Scope) (wanted : ℕ) (rows : List Row) (objects : List Datum) (at : Option Cursor) : Type 0 where
   pub found : objects ≡ yield_of_rows purpose p (seen_from purpose o base p scope wanted rows)
   pub next : at ≡ next_after o base scope (answers_of purpose p) wanted (seen_from purpose o base p scope wanted rows)
 
--- how many a visit that counts has found, and where the walk goes on
+-- the number that a visit that counts or deletes has found, and where the walk goes on
 pub record IsCounted (purpose : Purpose) (o : Settings) (base : ℕ) (p : Program) (scope : Scope) (wanted : ℕ) (rows : List Row) (count : ℕ) (at : Option Cursor) : Type 0 where
   pub total : count ≡ min (length (yield_of_rows purpose p (seen_from purpose o base p scope wanted rows))) most_counted
   pub next : at ≡ next_after o base scope (answers_of purpose p) wanted (seen_from purpose o base p scope wanted rows)

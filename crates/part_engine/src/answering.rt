@@ -1,4 +1,4 @@
-//! Visits that answer.
+//! Visits that return answers.
 ghost use Rattle.std.specs.Prelude.{ℕ, ◌≡◌, ◌≤◌, ◌-◌, ◌++◌, IsTrue, IsFalse, IfOk, filter_map, length, sum_by, take};
 ghost use Rattle.std.specs.Option.{option_map};
 ghost use Rattle.part_core.specs.Acts.Act.{Visit};
@@ -19,7 +19,8 @@ use std::alloc::{AllocError, Allocator};
 use term_core::Term;
 use verifier::Verified;
 
-/// Puts the answers on rows behind others, until there are those that are wanted where it stops there.
+/// Appends the answers for rows to `found`, until there are `wanted` if `stops`. Returns how far the visit went. Fails
+/// if an allocation fails.
 fn gather_until<'r, A: Allocator + Copy>(
     machine: &mut Machine<'r, '_, A>,
     rows: &[SeenRow<'r, A>],
@@ -52,7 +53,8 @@ fn gather_until<'r, A: Allocator + Copy>(
     })
 }
 
-/// Puts the answers of code on rows behind others, by one machine.
+/// Appends the answers of code for rows to `found`, with one machine, until there are `wanted` if `stops`. Returns how
+/// far the visit went. Fails if an allocation fails.
 fn answers<'r, A: Allocator + Copy>(
     heap: &A,
     code: &'r Verified<A>,
@@ -75,7 +77,7 @@ fn answers<'r, A: Allocator + Copy>(
     reach
 }
 
-/// Puts the answers of code on the rows at places behind others, by one machine.
+/// Appends the answers of code for the rows at `places` to `found`, with one machine. Fails if an allocation fails.
 fn answers_listed<'r, R: Rows<A>, A: Allocator + Copy>(
     heap: &A,
     code: &'r Verified<A>,
@@ -92,16 +94,17 @@ fn answers_listed<'r, R: Rows<A>, A: Allocator + Copy>(
     done
 }
 
-/// What a visit that answers has found.
+/// What a visit that returns answers has found.
 #[derive(Drop)]
 struct Found<A: Allocator> {
     answers: Vec<Term<A>, A>,
-    /// Where the walk goes on.
+    /// Where the walk goes on, or `None` at its end.
     next: Option<Cursor<A>>,
 }
 
 impl<R: Rows<A> + Drop, A: Allocator + Copy> StoredPart<R, A> {
-    /// What is found among the rows that a visit may look at, one after the other.
+    /// Returns what is found among the rows that a visit may look at, one after the other. Fails if an allocation
+    /// fails.
     fn find_looking(&self, look: &Look<'_, A>) -> Result<Found<A>, AllocError>
         requires { IsTrue (is_placed self.now.settings (scope_of look.now.scope)) }
         ensures { IfOk result (λ found. (w : Shown) → R.shows self.now.settings self.now.rows w
@@ -127,7 +130,8 @@ impl<R: Rows<A> + Drop, A: Allocator + Copy> StoredPart<R, A> {
         })
     }
 
-    /// What is found at the places of the rows of a visit that doesn't stop before its end. No row of these is made.
+    /// Returns what is found at the places of the rows of a visit that doesn't stop before its end. It collects no
+    /// rows. Fails if an allocation fails.
     fn find_listed(&self, look: &Look<'_, A>, places: &[Place]) -> Result<Found<A>, AllocError>
         requires placed { IsTrue (is_placed self.now.settings (scope_of look.now.scope)) }
         requires whole { IsFalse (stops self.now.settings (scope_of look.now.scope)) }
@@ -146,7 +150,8 @@ impl<R: Rows<A> + Drop, A: Allocator + Copy> StoredPart<R, A> {
         })
     }
 
-    /// What is found. Where the rows are listed by their places, they aren't gathered before.
+    /// Returns what a visit finds. If the rows are listed by their places, it doesn't collect them first. Fails if an
+    /// allocation fails.
     fn find(&self, look: &Look<'_, A>) -> Result<Found<A>, AllocError>
         requires { IsTrue (is_placed self.now.settings (scope_of look.now.scope)) }
         ensures { IfOk result (λ found. (w : Shown) → R.shows self.now.settings self.now.rows w
@@ -163,7 +168,7 @@ impl<R: Rows<A> + Drop, A: Allocator + Copy> StoredPart<R, A> {
         }
     }
 
-    /// The query's answers.
+    /// Returns the query's answers. Fails if the cursor isn't the part's or an allocation fails.
     pub(crate) fn visit(&self, look: &Look<'_, A>) -> Result<Reply<A>, Fault>
         ensures { (n : ℕ) → Leads R.shows self.now n
             (Visit Answers look.now.code.now (scope_of look.now.scope) look.now.wanted) (answer_in result) self.now }

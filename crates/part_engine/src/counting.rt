@@ -19,7 +19,8 @@ use part_rows::{Place, Rows, SeenRow, count_listed, count_true};
 use std::alloc::{AllocError, Allocator};
 use verifier::Verified;
 
-/// Adds to a total how many objects of rows answer true, until there are as many as are wanted where it stops there.
+/// Adds to `total` the number of objects for which the query returns `true`, until there are `wanted` if `stops`.
+/// Returns how far the visit went. Fails if an allocation fails.
 fn count_until<'r, A: Allocator + Copy>(
     machine: &mut Machine<'r, '_, A>,
     rows: &[SeenRow<'r, A>],
@@ -54,7 +55,8 @@ fn count_until<'r, A: Allocator + Copy>(
     })
 }
 
-/// How many objects of rows answer true, by one machine.
+/// Returns the number of objects for which the query returns `true`, and how far the visit went, with one machine.
+/// Fails if an allocation fails.
 fn count<'r, A: Allocator + Copy>(
     heap: &A,
     code: &'r Verified<A>,
@@ -77,7 +79,8 @@ fn count<'r, A: Allocator + Copy>(
     Ok((total, reach?))
 }
 
-/// How many objects of the rows at places answer true, by one machine.
+/// Returns the number of objects of the rows at `places` for which the query returns `true`, with one machine. Fails if
+/// an allocation fails.
 fn total_listed<'r, R: Rows<A>, A: Allocator + Copy>(
     heap: &A,
     code: &'r Verified<A>,
@@ -96,14 +99,15 @@ fn total_listed<'r, R: Rows<A>, A: Allocator + Copy>(
 /// What a visit that counts has found.
 #[derive(Drop)]
 struct Counted<A: Allocator> {
-    /// How many objects answer true.
+    /// The number of objects for which the query returns `true`.
     total: u64,
-    /// Where the walk goes on.
+    /// Where the walk goes on, or `None` at its end.
     next: Option<Cursor<A>>,
 }
 
 impl<R: Rows<A> + Drop, A: Allocator + Copy> StoredPart<R, A> {
-    /// What is counted among the rows that a visit may look at, one after the other.
+    /// Returns what is counted among the rows that a visit may look at, one after the other. Fails if an allocation
+    /// fails.
     fn count_looking(&self, look: &Look<'_, A>) -> Result<Counted<A>, AllocError>
         requires { IsTrue (is_placed self.now.settings (scope_of look.now.scope)) }
         ensures { IfOk result (λ counted. (w : Shown) → R.shows self.now.settings self.now.rows w
@@ -118,7 +122,8 @@ impl<R: Rows<A> + Drop, A: Allocator + Copy> StoredPart<R, A> {
         Ok(Counted { total, next })
     }
 
-    /// What is counted at the places of the rows of a visit that doesn't stop before its end. No row of these is made.
+    /// Returns what is counted at the places of the rows of a visit that doesn't stop before its end. It collects no
+    /// rows. Fails if an allocation fails.
     fn count_places(&self, look: &Look<'_, A>, places: &[Place]) -> Result<Counted<A>, AllocError>
         requires placed { IsTrue (is_placed self.now.settings (scope_of look.now.scope)) }
         requires whole { IsFalse (stops self.now.settings (scope_of look.now.scope)) }
@@ -133,7 +138,8 @@ impl<R: Rows<A> + Drop, A: Allocator + Copy> StoredPart<R, A> {
         Ok(Counted { total, next })
     }
 
-    /// What is counted. Where the rows are listed by their places, they aren't gathered before.
+    /// Returns what a visit counts. If the rows are listed by their places, it doesn't collect them first. Fails if an
+    /// allocation fails.
     fn count(&self, look: &Look<'_, A>) -> Result<Counted<A>, AllocError>
         requires { IsTrue (is_placed self.now.settings (scope_of look.now.scope)) }
         ensures { IfOk result (λ counted. (w : Shown) → R.shows self.now.settings self.now.rows w
@@ -150,7 +156,8 @@ impl<R: Rows<A> + Drop, A: Allocator + Copy> StoredPart<R, A> {
         }
     }
 
-    /// How many objects answer true, at most 2^64 - 1.
+    /// Returns the number of objects for which the query returns `true`, at most 2^64 - 1. Fails if the cursor isn't
+    /// the part's or an allocation fails.
     pub(crate) fn visit_count(&self, look: &Look<'_, A>) -> Result<Reply<A>, Fault>
         ensures { (n : ℕ) → Leads R.shows self.now n
             (Visit Counts look.now.code.now (scope_of look.now.scope) look.now.wanted) (answer_in result) self.now }

@@ -25,7 +25,7 @@ use std::marker::Model;
 use term_core::Term;
 use verifier::Verified;
 
-/// What is left of a key's objects.
+/// The remaining objects of a key.
 #[derive(Drop)]
 struct Left<A: Allocator> {
     key: Term<A>,
@@ -48,18 +48,18 @@ impl<A: Allocator> Model for Left<A> {
 /// What a visit that deletes has found.
 #[derive(Drop)]
 struct Chosen<A: Allocator> {
-    /// What is left at the keys of which objects go.
+    /// The keys from which objects are deleted, each with its remaining objects.
     left: Vec<Left<A>, A>,
-    /// How many go.
+    /// How many objects are deleted.
     total: u64,
-    /// Where the walk goes on.
+    /// Where the walk goes on, or `None` at its end.
     next: Option<Cursor<A>>,
 }
 
 impl<A: Allocator> Left<A> {
     ghost use Rattle.part_core.specs.declared.settings.Settings.{Settings as AnySettings};
 
-    /// Writes it in the place of what is held of its key.
+    /// Replaces the objects of the key by the remaining ones. If none remain, the row is removed, unless `keeps`.
     fn write<R: Rows<A>>(self, settings: Settings, rows: &mut R, dead: &mut usize, keeps: bool)
         ensures { (w : Shown) → Keeps R.shows settings rows.old dead.old w → AreSound settings w
             → Keeps R.shows settings rows.new dead.new (shown_exchanged self.0 self.1 keeps w) }
@@ -69,7 +69,8 @@ impl<A: Allocator> Left<A> {
     }
 }
 
-/// Puts what is left of a row of one object behind others where that answers true, and counts it.
+/// If the query returns `true` for the only object of a row, appends the key without objects to `left`, and returns 1.
+/// Otherwise returns 0. Fails if an allocation fails.
 fn sort_one<'r, A: Allocator + Copy>(
     machine: &mut Machine<'r, '_, A>,
     key: &Term<A>,
@@ -92,7 +93,7 @@ fn sort_one<'r, A: Allocator + Copy>(
     Ok(1)
 }
 
-/// Puts copies of those of some objects that don't answer true behind others.
+/// Appends to `kept` copies of the objects for which the query does not return `true`. Fails if an allocation fails.
 fn keep_others<'r, A: Allocator + Copy>(
     machine: &mut Machine<'r, '_, A>,
     objects: &'r [Term<A>],
@@ -110,7 +111,8 @@ fn keep_others<'r, A: Allocator + Copy>(
     Ok(())
 }
 
-/// Puts what is left of a row behind others where objects of it answer true, and counts these.
+/// Returns how many of the row's objects the query selects for deletion. If there are any, appends to `left` the key
+/// with copies of the objects that remain (maybe none). The row itself is not changed. Fails if an allocation fails.
 fn sort_many<'r, A: Allocator + Copy>(
     machine: &mut Machine<'r, '_, A>,
     key: &Term<A>,
@@ -135,8 +137,8 @@ fn sort_many<'r, A: Allocator + Copy>(
     Ok(count as u64)
 }
 
-/// Puts what is left of a row behind others where objects of it answer true, and counts these. Of one object no list
-/// is made.
+/// Returns how many of the row's objects the query selects for deletion. If there are any, appends to `left` the key
+/// with copies of the objects that remain. For a single object no list is created. Fails if an allocation fails.
 fn sort_out<'r, A: Allocator + Copy>(
     machine: &mut Machine<'r, '_, A>,
     row: &SeenRow<'r, A>,
@@ -153,7 +155,8 @@ fn sort_out<'r, A: Allocator + Copy>(
     }
 }
 
-/// Sorts rows out, and adds to a total how many objects go, until there are as many as are wanted where it stops there.
+/// Selects the objects of rows to delete: appends what remains to `left`, and adds their number to `total`, until there
+/// are `wanted` if `stops`. Returns how far the visit went. Fails if an allocation fails.
 fn sort_until<'r, A: Allocator + Copy>(
     machine: &mut Machine<'r, '_, A>,
     rows: &[SeenRow<'r, A>],
@@ -191,7 +194,8 @@ fn sort_until<'r, A: Allocator + Copy>(
     })
 }
 
-/// Sorts rows out by one machine.
+/// Selects the objects of rows to delete, with one machine: appends what remains to `left`. Returns their number, and
+/// how far the visit went. Fails if an allocation fails.
 fn sort<'r, A: Allocator + Copy>(
     heap: &A,
     code: &'r Verified<A>,
@@ -218,7 +222,8 @@ fn sort<'r, A: Allocator + Copy>(
 }
 
 impl<R: Rows<A> + Drop, A: Allocator + Copy> StoredPart<R, A> {
-    /// What a visit deletes, and where the walk goes on. All objects are looked at before the first goes.
+    /// Returns what a visit deletes, and where the walk goes on. All objects are evaluated before the first is deleted.
+    /// Fails if an allocation fails.
     fn choose(&self, look: &Look<'_, A>) -> Result<Chosen<A>, AllocError>
         requires { IsTrue (is_placed self.now.settings (scope_of look.now.scope)) }
         ensures { IfOk result (λ chosen. (w : Shown) → R.shows self.now.settings self.now.rows w
@@ -241,7 +246,7 @@ impl<R: Rows<A> + Drop, A: Allocator + Copy> StoredPart<R, A> {
         Ok(Chosen { left, total, next })
     }
 
-    /// Writes what is left at keys. Where nothing is left a row goes, unless some session fixes the part.
+    /// Writes the remaining objects of keys. A row without objects is removed, unless some session fixes the part.
     fn sweep(&mut self, left: Vec<Left<A>, A>)
         ensures settings { self.new.settings ≡ self.old.settings }
         ensures fixes { self.new.fixes.items ≡ self.old.fixes.items }
@@ -257,7 +262,8 @@ impl<R: Rows<A> + Drop, A: Allocator + Copy> StoredPart<R, A> {
         }
     }
 
-    /// Deletes the objects that answer true, and counts them, at most 2^64 - 1.
+    /// Deletes the objects for which the query returns `true`, and returns their number, at most 2^64 - 1. Fails if the
+    /// cursor isn't the part's or an allocation fails; then nothing is deleted.
     pub(crate) fn visit_delete(&mut self, look: &Look<'_, A>) -> Result<Reply<A>, Fault>
         ensures settings { self.new.settings ≡ self.old.settings }
         ensures leads { (n : ℕ) → Leads R.shows self.old n

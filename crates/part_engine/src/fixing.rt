@@ -14,7 +14,7 @@ use part_rows::{Rows, settle};
 use std::alloc::Allocator;
 
 impl<R: Rows<A> + Drop, A: Allocator> StoredPart<R, A> {
-    /// Unless some session fixes the part, lets dead rows go, and takes the number of slots for the base.
+    /// Unless some session fixes the part, removes dead rows, and sets the base to the number of slots.
     fn settle(&mut self)
         ensures settings { self.new.settings ≡ self.old.settings }
         ensures fixes { self.new.fixes.items ≡ self.old.fixes.items }
@@ -26,7 +26,7 @@ impl<R: Rows<A> + Drop, A: Allocator> StoredPart<R, A> {
         self.base = settle(&mut self.rows, &mut self.dead, fixes, self.base);
     }
 
-    /// Fixes the part once more, at most 65,535 times for a session.
+    /// Adds a fix of the session. Fails with `FixLimit` if it has 65,535 already.
     pub(crate) fn fix(&mut self, session: u8) -> Result<Reply<A>, Fault>
         requires { session < self.old.settings.sessions }
         ensures settings { self.new.settings ≡ self.old.settings }
@@ -40,7 +40,7 @@ impl<R: Rows<A> + Drop, A: Allocator> StoredPart<R, A> {
         Ok(Reply::Done)
     }
 
-    /// Releases one fix of the session.
+    /// Releases one fix of the session. Fails with `NotFixed` if it has none.
     pub(crate) fn unfix(&mut self, session: u8) -> Result<Reply<A>, Fault>
         requires { session < self.old.settings.sessions }
         ensures settings { self.new.settings ≡ self.old.settings }

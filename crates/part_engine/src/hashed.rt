@@ -1,4 +1,4 @@
-//! A row of a table that isn't walked by key, which keeps the hash of its key.
+//! A row of a table that isn't walked in key order, which stores the hash of its key.
 ghost use Rattle.std.specs.Prelude.{◌≡◌, ◌<◌, ◌/◌, ◌%◌};
 
 use part_core::{Held, Settings, TableKind};
@@ -8,7 +8,7 @@ use std::marker::Model;
 use std::mem;
 use term_core::Term;
 
-/// A key, its hash, and what is held of it.
+/// A key, its hash, and the objects held at it.
 #[derive(Drop)]
 pub struct HashedRow<A: Allocator> {
     key: Term<A>,
@@ -32,7 +32,7 @@ impl<A: Allocator> Model for HashedRow<A> {
     ghost invariant = { λ r. r.hash ≡ key_hash r.key };
 }
 
-/// The class of a key by a base, by its hash.
+/// Returns the class of a key by a base, given the key's hash.
 pub fn class_of(settings: Settings, base: u64, hash: u64) -> u64
     requires parts { 0 < settings.parts }
     requires base { 0 < base }
@@ -49,7 +49,7 @@ impl<A: Allocator> HashedRow<A> {
     ghost use Rattle.part_core.specs.Settings.{class_at};
     ghost use Rattle.part_core.specs.Rows.{is_live};
 
-    /// A dead row of a key, whose hash is known.
+    /// Returns a dead row of a key, given the key's hash.
     pub fn new(key: Term<A>, hash: u64) -> Self
         requires { hash ≡ key_hash key }
         ensures { result ≡ (key, []) }
@@ -61,35 +61,35 @@ impl<A: Allocator> HashedRow<A> {
         }
     }
 
-    /// The key.
+    /// Returns the key.
     pub fn key(&self) -> &Term<A>
         ensures { result.now ≡ self.now.0 }
     {
         &self.key
     }
 
-    /// What is held of it.
+    /// Returns the objects held at the key.
     pub fn held(&self) -> &Held<A>
         ensures { result.now ≡ self.now.1 }
     {
         &self.held
     }
 
-    /// The row, as a visit sees it.
+    /// Returns the row, as a visit sees it.
     pub fn seen(&self) -> SeenRow<'_, A>
         ensures { result ≡ self.now }
     {
         SeenRow::new(&self.key, &self.held)
     }
 
-    /// The hash of the key.
+    /// Returns the hash of the key.
     pub fn hash(&self) -> u64
         ensures { result ≡ key_hash self.now.0 }
     {
         self.hash
     }
 
-    /// Whether this is the row of a key, whose hash is known.
+    /// Returns whether this is the row of a key, given the key's hash.
     pub fn is_of(&self, key: &Term<A>, hash: u64) -> bool
         requires { hash ≡ key_hash key.now }
         ensures { result ≡ is_same key.now self.now.0 }
@@ -97,14 +97,14 @@ impl<A: Allocator> HashedRow<A> {
         self.hash == hash && key == &self.key
     }
 
-    /// Whether the key has an object.
+    /// Returns whether the key has an object.
     pub fn is_live(&self) -> bool
         ensures { result ≡ is_live self.now }
     {
         !self.held.is_empty()
     }
 
-    /// Whether the key is of a class, by a base.
+    /// Returns whether the key is in a class, by a base.
     pub fn is_in(&self, settings: Settings, base: u64, class: u64) -> bool
         requires parts { 0 < settings.parts }
         requires base { 0 < base }
@@ -113,7 +113,7 @@ impl<A: Allocator> HashedRow<A> {
         class_of(settings, base, self.hash) == class
     }
 
-    /// What is held of the key and `held` change places.
+    /// Exchanges the objects held at the key with `held`.
     pub fn exchange(&mut self, held: &mut Held<A>)
         ensures row { self.new ≡ (self.old.0, held.old) }
         ensures held { held.new ≡ self.old.1 }
@@ -127,8 +127,8 @@ impl<A: Allocator + Copy> HashedRow<A> {
     ghost use Rattle.term_core.specs.Datum.Datum.{nil};
     ghost use Rattle.part_core.specs.Rows.{is_live, objects_with};
 
-    /// Puts an object in among those that are held of the key, as the kind of table has it. Memory is wanted only
-    /// where there is one.
+    /// Inserts an object among those held at the key, as the kind of table requires. It can only run out of memory if
+    /// there is an object already; then nothing is changed.
     pub fn put(
         &mut self,
         alloc: A,

@@ -7,7 +7,7 @@ use part_core::{Settings, key_in};
 use std::alloc::Allocator;
 use term_core::Term;
 
-/// The key of what is put in, none of what is no object.
+/// Returns the key of the object in the option, or `None` if there is none or the term is no object.
 pub fn key_of<A: Allocator>(settings: Settings, object: &Option<Term<A>>) -> Option<&Term<A>>
     ensures object { IfSome result (λ _. IsTrue (is_object settings (unwrap_or object.now nil))) }
     ensures key { IfSome result (λ key. key.now ≡ key_of settings (unwrap_or object.now nil)) }

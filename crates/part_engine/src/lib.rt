@@ -1,16 +1,15 @@
 //! A part over rows: one implementation of `part_core::Part` for every sort of rows.
 //!
-//! The one contract: `StoredPart` is a `Part` whatever its rows are, where these keep the trait `Rows` of `part_rows`.
-//! Rows show a list, each a key with its objects, and a number of slots; they say what each of a few operations makes
-//! of that, and know nothing of sessions, fixes, histories, refusals and queries, which all stand here.
+//! The one contract: `StoredPart` is a `Part` for any rows that implement the trait `Rows` of `part_rows`. Rows show a
+//! list, each row a key with its objects, and a number of slots. Their contracts say how each operation changes that.
+//! They know nothing of sessions, fixes, histories, refusals and queries, which are all here.
 //!
-//! - `stored`, `part`: the part, which counts the dead among its rows, and that it keeps the contract of parts.
-//!   `specs/Stored.antt` says when it is in a state, and what an operation leads to.
-//! - `reading`, `writing`, `fixing`, `walking`: its operations at one key, on its counts of fixes, and by the order
-//!   of a walk.
-//! - `hashed`: a row that keeps its key's hash, for rows of tables that aren't walked by key; `specs/Sets.antt` has
-//!   what these have in common.
-//! - `key`: the key of an object that is put in.
+//! - `stored`, `part`: the part, which counts its dead rows, and its implementation of `Part`. `specs/Stored.antt` says
+//!   when it is in a state, and what an operation leads to.
+//! - `reading`, `writing`, `fixing`, `walking`: its operations at one key, on its counts of fixes, and in walk order.
+//! - `hashed`: a row that stores its key's hash, for tables that aren't walked in key order; `specs/Sets.antt` has what
+//!   these have in common.
+//! - `key`: the key of an object that is inserted.
 //! - `looking`, `answering`, `counting`, `deleting`: visits. `specs/Looks.antt` says how far a visit goes and what it
 //!   has found.
 #![tactic(auto)]

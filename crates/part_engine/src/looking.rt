@@ -1,4 +1,4 @@
-//! Where a visit looks, how far it comes, and where the walk goes on.
+//! Where a visit looks, how far it goes, and where the walk goes on.
 ghost use Rattle.std.specs.Prelude.{ℕ, ◌≡◌, ◌≤◌, ◌<◌, ◌+◌, ◌-◌, ◌&&◌, ◌||◌, ◌==◌, IsTrue, IsFalse, IfOk, sum_by, take, length, List};
 ghost use Rattle.std.specs.Option.{option_map};
 ghost use Rattle.part_core.specs.Ops.{cursor_of, scope_of};
@@ -13,24 +13,24 @@ use part_core::{Cursor, MOST_ROWS, Scope, is_base};
 use part_rows::{Rows, SeenRow};
 use std::alloc::{AllocError, Allocator};
 
-/// How far a visit came.
+/// How far a visit went.
 #[derive(Clone, Copy)]
 pub(crate) struct Reach {
     /// How many rows it saw.
     pub(crate) rows: usize,
-    /// How many answers are still wanted.
+    /// How many answers are missing to the target; 0 once it is reached.
     pub(crate) left: u64,
 }
 
-/// Whether a visit is over where so many answers are still wanted.
+/// Returns whether a visit is over: it stops at its target, and no answers are missing.
 pub(crate) fn is_over(stops: bool, left: u64) -> bool
     ensures { result ≡ (stops && (left == 0)) }
 {
     stops && left == 0
 }
 
-/// The next class.
-fn class_behind<A: Allocator>(base: u32, class: u32) -> Option<Cursor<A>>
+/// Returns the cursor at the class after `class`, or `None` after the last.
+fn class_after<A: Allocator>(base: u32, class: u32) -> Option<Cursor<A>>
     requires { class < base }
     ensures { option_map cursor_of result ≡ next_class base class }
 {
@@ -44,15 +44,16 @@ fn class_behind<A: Allocator>(base: u32, class: u32) -> Option<Cursor<A>>
     }
 }
 
-/// Whether a visit of an ordered set stopped before its end.
+/// Returns whether a visit of an ordered set stopped at its target or at its greatest number of rows.
 fn is_stopped(reach: Reach) -> bool
     ensures { result ≡ ((reach.left == 0) || (reach.rows == most_rows)) }
 {
     reach.left == 0 || reach.rows == MOST_ROWS
 }
 
-/// Behind the last row that a visit of an ordered set saw, unless there was none further.
-fn key_behind<A: Allocator + Copy>(
+/// Returns the cursor after the last row that a visit of an ordered set saw, or `None` if no row is left. Fails if an
+/// allocation fails.
+fn following_key<A: Allocator + Copy>(
     rows: &[SeenRow<'_, A>],
     reach: Reach,
 ) -> Result<Option<Cursor<A>>, AllocError>
@@ -71,7 +72,8 @@ fn key_behind<A: Allocator + Copy>(
 }
 
 impl<R: Rows<A> + Drop, A: Allocator> StoredPart<R, A> {
-    /// Whether a walk can go on there.
+    /// Returns whether a walk can go on there: in an ordered set after any key, in a set at a class below a base that
+    /// the part has had.
     pub(crate) fn is_inside(&self, scope: &Scope<'_, A>) -> bool
         ensures inside { (w : Shown) (fixes : List ℕ)
             → is_inside self.now.settings (state_of w fixes self.now.base) (scope_of scope.now) ≡ result }
@@ -90,7 +92,7 @@ impl<R: Rows<A> + Drop, A: Allocator> StoredPart<R, A> {
         }
     }
 
-    /// Whether a visit stops once it has the answers that are wanted.
+    /// Returns whether a visit stops once it has reached its target, as one of an ordered set without a named key does.
     pub(crate) fn stops(&self, scope: &Scope<'_, A>) -> bool
         ensures { result ≡ stops self.now.settings (scope_of scope.now) }
     {
@@ -104,7 +106,8 @@ impl<R: Rows<A> + Drop, A: Allocator> StoredPart<R, A> {
         }
     }
 
-    /// Where the walk goes on behind a visit that doesn't stop before its end: at the next class, if there is one.
+    /// Returns where the walk goes on after a visit that doesn't stop before its end: at the next class, if there is
+    /// one.
     pub(crate) fn next_class(&self, scope: &Scope<'_, A>) -> Option<Cursor<A>>
         requires placed { IsTrue (is_placed self.now.settings (scope_of scope.now)) }
         requires whole { IsFalse (stops self.now.settings (scope_of scope.now)) }
@@ -112,10 +115,10 @@ impl<R: Rows<A> + Drop, A: Allocator> StoredPart<R, A> {
             ≡ next_after self.now.settings self.now.base (scope_of scope.now) answers wanted rows }
     {
         match scope {
-            Scope::Begin => class_behind(self.base, 0),
+            Scope::Begin => class_after(self.base, 0),
             Scope::Named(_) => None,
             Scope::After(cursor) => match cursor {
-                Cursor::Class { base, class } => class_behind(*base, *class),
+                Cursor::Class { base, class } => class_after(*base, *class),
                 Cursor::Behind(_) => None,
             },
         }
@@ -123,7 +126,7 @@ impl<R: Rows<A> + Drop, A: Allocator> StoredPart<R, A> {
 }
 
 impl<R: Rows<A> + Drop, A: Allocator + Copy> StoredPart<R, A> {
-    /// The rows that a visit may look at.
+    /// Returns the rows that a visit may look at. Fails if an allocation fails.
     pub(crate) fn look<'r>(
         &'r self,
         scope: &Scope<'_, A>,
@@ -138,7 +141,8 @@ impl<R: Rows<A> + Drop, A: Allocator + Copy> StoredPart<R, A> {
         Ok(rows)
     }
 
-    /// Where the walk goes on behind a visit that saw so much of these rows, none at its end.
+    /// Returns where the walk goes on after a visit that saw the first of `rows`, as many as `reach` says, or `None` at
+    /// its end. Fails if an allocation fails.
     pub(crate) fn next_of(
         &self,
         scope: &Scope<'_, A>,
@@ -155,6 +159,6 @@ impl<R: Rows<A> + Drop, A: Allocator + Copy> StoredPart<R, A> {
         if !self.stops(scope) {
             return Ok(self.next_class(scope));
         }
-        key_behind(rows, reach)
+        following_key(rows, reach)
     }
 }

@@ -1,4 +1,4 @@
-//! The part keeps the contract of parts.
+//! The part implements the contract of parts.
 ghost use Rattle.std.specs.Prelude.{◌≡◌, ◌≢◌, ◌<◌, ◌↔◌, None, IsTrue, IfErr, OnOk, OnErr, length};
 ghost use Rattle.part_core.specs.Acts.{IsAsked};
 ghost use Rattle.part_core.specs.Ops.{act_of, answer_in, object_in, takes_no_memory};
@@ -14,7 +14,7 @@ use part_rows::Rows;
 use std::alloc::{AllocError, Allocator};
 use term_core::Term;
 
-/// Whether such rows are made for these settings.
+/// Returns whether parts over such rows can be made with these settings.
 fn is_served<R: Rows<A>, A: Allocator>(settings: Settings) -> bool
     ensures { IsTrue result ↔ IsServed R.serves settings }
 {
@@ -22,7 +22,7 @@ fn is_served<R: Rows<A>, A: Allocator>(settings: Settings) -> bool
 }
 
 impl<R: Rows<A> + Drop, A: Allocator + Copy> StoredPart<R, A> {
-    /// Does an operation.
+    /// Performs an operation, with the result that `apply` returns.
     fn answer<'a>(&mut self, session: u8, op: &mut PartOp<'a, A>) -> Result<Reply<A>, Fault>
         requires session { session < self.old.settings.sessions }
         requires asked { IsAsked (act_of op.old) }

@@ -16,7 +16,7 @@ use term_core::Term;
 impl<R: Rows<A> + Drop, A: Allocator> StoredPart<R, A> {
     ghost use Rattle.std.specs.Prelude.{Some};
 
-    /// Whether a key has an object.
+    /// Returns whether a key has an object.
     fn has_objects(&self, key: &Term<A>) -> bool
         ensures { (w : Shown) → R.shows self.now.settings self.now.rows w → AreSound self.now.settings w
             → result ≡ is_live (key.now, objects_at w.rows key.now) }
@@ -27,7 +27,7 @@ impl<R: Rows<A> + Drop, A: Allocator> StoredPart<R, A> {
         }
     }
 
-    /// Whether a key has an object.
+    /// Returns, as a reply, whether a key has an object.
     pub(crate) fn member(&self, key: &Term<A>) -> Reply<A>
         ensures { (n : ℕ) → Leads R.shows self.now n (Member key.now) (Some (Replied (said_of result))) self.now }
     {
@@ -36,7 +36,7 @@ impl<R: Rows<A> + Drop, A: Allocator> StoredPart<R, A> {
 }
 
 impl<R: Rows<A> + Drop, A: Allocator + Copy> StoredPart<R, A> {
-    /// Copies of the objects of a key.
+    /// Returns copies of the objects of a key. Fails if an allocation fails.
     pub(crate) fn objects_of(&self, key: &Term<A>) -> Result<Vec<Term<A>, A>, AllocError>
         ensures { IfOk result (λ objects. (w : Shown) → R.shows self.now.settings self.now.rows w
             → AreSound self.now.settings w → objects.items ≡ objects_at w.rows key.now) }
@@ -47,7 +47,7 @@ impl<R: Rows<A> + Drop, A: Allocator + Copy> StoredPart<R, A> {
         }
     }
 
-    /// The objects of a key.
+    /// Returns, as a reply, copies of the objects of a key. Fails if an allocation fails.
     pub(crate) fn lookup(&self, key: &Term<A>) -> Result<Reply<A>, Fault>
         ensures { (n : ℕ) → Leads R.shows self.now n (Lookup key.now) (answer_in result) self.now }
     {

@@ -1,4 +1,4 @@
-//! The order of a walk.
+//! Operations in walk order.
 ghost use Rattle.std.specs.Prelude.{ℕ, ◌≡◌, ◌||◌, IfOk};
 ghost use Rattle.std.specs.Option.{option_copied};
 ghost use Rattle.part_core.specs.Acts.Act.{First, Next};
@@ -14,7 +14,7 @@ use part_rows::Rows;
 use std::alloc::{AllocError, Allocator};
 use term_core::Term;
 
-/// A copy of a key, none where there is none.
+/// Returns a copy of a key, or `None` if there is none. Fails if an allocation fails.
 fn copied<A: Allocator + Copy>(key: Option<&Term<A>>) -> Result<Option<Term<A>>, AllocError>
     ensures { IfOk result (λ copy. copy ≡ option_copied key.entry) }
 {
@@ -25,7 +25,7 @@ fn copied<A: Allocator + Copy>(key: Option<&Term<A>>) -> Result<Option<Term<A>>,
 }
 
 impl<R: Rows<A> + Drop, A: Allocator> StoredPart<R, A> {
-    /// Whether a key has a place in the order of a walk: in a set where it has a row.
+    /// Returns whether a key has a place in walk order: in an ordered set always, in a set if it has a row.
     fn has_place(&self, key: &Term<A>) -> bool
         ensures { (w : Shown) → R.shows self.now.settings self.now.rows w → AreSound self.now.settings w
             → result ≡ (is_ordered self.now.settings.kind || has_row w.rows key.now) }
@@ -38,7 +38,7 @@ impl<R: Rows<A> + Drop, A: Allocator> StoredPart<R, A> {
 }
 
 impl<R: Rows<A> + Drop, A: Allocator + Copy> StoredPart<R, A> {
-    /// The first key in the order of a walk.
+    /// Returns the first key in walk order that has objects. Fails if an allocation fails.
     pub(crate) fn first(&self) -> Result<Reply<A>, Fault>
         ensures { (n : ℕ) → Leads R.shows self.now n First (answer_in result) self.now }
     {
@@ -46,14 +46,15 @@ impl<R: Rows<A> + Drop, A: Allocator + Copy> StoredPart<R, A> {
         Ok(Reply::AtKey(key))
     }
 
-    /// The key behind one: in a set of one that has a row, dead or live.
+    /// Returns the key after another in walk order that has objects. In a set the other key must have a row, dead or
+    /// live; otherwise fails with `BadKey`. Also fails if an allocation fails.
     pub(crate) fn next(&self, key: &Term<A>) -> Result<Reply<A>, Fault>
         ensures { (n : ℕ) → Leads R.shows self.now n (Next key.now) (answer_in result) self.now }
     {
         if !self.has_place(key) {
             return Err(Fault::BadKey);
         }
-        let next = copied(self.rows.key_behind(self.settings, self.base, key))?;
+        let next = copied(self.rows.following_key(self.settings, self.base, key))?;
         Ok(Reply::AtKey(next))
     }
 }

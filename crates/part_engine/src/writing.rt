@@ -15,7 +15,8 @@ use std::alloc::Allocator;
 use term_core::Term;
 
 impl<R: Rows<A> + Drop, A: Allocator> StoredPart<R, A> {
-    /// The base of walks that begin: the number of slots, but the one that it was while some session fixes the part.
+    /// Returns the base of walks that begin: the number of slots, or the base that the part has while some session
+    /// fixes it.
     fn base_now(&self) -> u32
         ensures base { (w : Shown) → R.shows self.now.settings self.now.rows w
             → result ≡ (if is_fixed self.now.fixes.items then self.now.base else w.slots) }
@@ -28,7 +29,8 @@ impl<R: Rows<A> + Drop, A: Allocator> StoredPart<R, A> {
         }
     }
 
-    /// Puts an object in, in the place of the one with its key.
+    /// Inserts an object: in a set it replaces the one with its key, in a bag it is added to those. Fails, with nothing
+    /// changed, if the term is no object or an allocation fails.
     pub(crate) fn insert(&mut self, object: &mut Option<Term<A>>) -> Result<Reply<A>, Fault>
         ensures settings { self.new.settings ≡ self.old.settings }
         ensures leads { (n : ℕ)
@@ -41,7 +43,8 @@ impl<R: Rows<A> + Drop, A: Allocator> StoredPart<R, A> {
         Ok(Reply::Done)
     }
 
-    /// Puts an object in if its key has none.
+    /// Inserts an object if its key has none, and returns whether it did. Fails, with nothing changed, if the term is
+    /// no object or an allocation fails.
     pub(crate) fn insert_new(&mut self, object: &mut Option<Term<A>>) -> Result<Reply<A>, Fault>
         ensures settings { self.new.settings ≡ self.old.settings }
         ensures leads { (n : ℕ)
@@ -73,7 +76,7 @@ impl<R: Rows<A> + Drop, A: Allocator> StoredPart<R, A> {
         Reply::Done
     }
 
-    /// Deletes the objects that are equal to one.
+    /// Deletes the objects that are equal to the given one. Fails if the term is no object.
     pub(crate) fn delete_object(&mut self, object: &Term<A>) -> Result<Reply<A>, Fault>
         ensures settings { self.new.settings ≡ self.old.settings }
         ensures leads { (n : ℕ) → Leads R.shows self.old n (DeleteObject object.now) (answer_in result) self.new }
@@ -111,7 +114,7 @@ impl<R: Rows<A> + Drop, A: Allocator> StoredPart<R, A> {
 }
 
 impl<R: Rows<A> + Drop, A: Allocator + Copy> StoredPart<R, A> {
-    /// Deletes the objects of a key and answers them.
+    /// Deletes the objects of a key and returns them. Fails, with nothing changed, if an allocation fails.
     pub(crate) fn take(&mut self, key: &Term<A>) -> Result<Reply<A>, Fault>
         ensures settings { self.new.settings ≡ self.old.settings }
         ensures leads { (n : ℕ) → Leads R.shows self.old n (Take key.now) (answer_in result) self.new }

@@ -31,13 +31,13 @@ use Rattle.part_hash.specs.Swept.{is_dead_at}
 use Rattle.part_hash.proofs.StandLemmas.{None≢Some, some_is}
 use Rattle.part_hash.proofs.WriteLemmas.{listed_same}
 
--- a row behind the others was made last
+-- a row after the others was created last
 rising_more : (list : List Standing) (e : Standing) → IsRising list → All (λ f. f.0.made < e.0.made) list → IsRising (list ++ e ∷ [])
 rising_more [] e rising below = (All-nil (λ (f : Standing). e.0.made < f.0.made), tt)
 rising_more (f ∷ list) e rising below =
     (All-push (λ (g : Standing). f.0.made < g.0.made) list e rising.0 (All-head (λ (g : Standing). g.0.made < e.0.made) f list below), rising_more list e rising.1 (All-tail (λ (g : Standing). g.0.made < e.0.made) f list below))
 
--- rows behind which one was added
+-- rows to which one was appended still have each key that they had
 has_before : (k : Datum) (rows : List Row) (r : Row) → has_row rows k ≡ true → has_row (rows ++ r ∷ []) k ≡ true
 has_before k [] r there = absurd (true≢false (sym there))
 has_before k (s ∷ rows) r there =
@@ -51,14 +51,14 @@ has_last k (s ∷ rows) r same = by_test (is_same k s.0) _ (λ here. rw here ref
 not_there : (slab : Slab Kept) (at i : ℕ) (s : Kept) → get slab at ≡ None → get slab i ≡ Some s → i ≢ at
 not_there slab at i s vacant there same = None≢Some (sym vacant ∙ ap (get slab) (sym same) ∙ there)
 
--- what is there behind it was there before, or is the row
+-- what is in the slab after the insertion was in it before, or is the row
 from : (slab new : Slab Kept) (at i : ℕ) (row : Kept) (s : Kept) → Updates slab new at (Some row) → get new i ≡ Some s → ((i ≡ at) × (row ≡ s)) ⊎ (get slab i ≡ Some s)
 from slab new at i row s updates here =
     by_test (i == at) _
     (λ same. let is : i ≡ at = eqb-true i at same in inl (is, some_is (sym updates.changed ∙ ap (get new) (sym is) ∙ here)))
     (λ other. inr (sym (updates.others i (λ e. true≢false (sym (eq-eqb _ _ e) ∙ other))) ∙ here))
 
--- the row stands at its place, and what was made before as it did
+-- the row is at its place, and rows that were created before are at theirs
 pub is_added : (slab new : Slab Kept) (p : Place) (row : Row) → get slab p.at ≡ None → Updates slab new p.at (Some (row, p.made)) → IsAdded slab new p row
 is_added slab new p row vacant updates = record {
   here = let own : (p.made == p.made) ≡ true = eq-eqb p.made p.made refl in
@@ -121,7 +121,7 @@ stands_more {A} o s t rows row p stands none live vacant made low updates count 
         (λ same. absurd (true≢false (sym gone ∙ ap (λ (f : Option Kept). option_map_or (λ (u : Kept). not (is_live u.0)) f false) (ap (get t.rows) (eqb-true i p.at same) ∙ updates.changed) ∙ ap not live)))
         (λ other. ap (λ b. is_noted b t.dying.items i) lost ∙ ap (λ ns. is_noted s.lost ns i) dying ∙ stands.noted i (ap (λ (f : Option Kept). option_map_or (λ (u : Kept). not (is_live u.0)) f false) (sym (updates.others i (λ e. true≢false (sym (eq-eqb _ _ e) ∙ other)))) ∙ gone))
 
--- all hashes mixed anew
+-- all hashes are mixed again with another seed
 pub stands_mixed : {A : Type 0} (o : Settings) (s t : Store A) (rows : List Row) (seed : ℕ) → AreMixed (λ m at n. (u : Kept) → get s.rows at ≡ Some u → n ≡ mixed seed u.0.0) (cells s.index) (cells t.index) → t.rows ≡ s.rows → t.seed ≡ seed → t.slots.items ≡ s.slots.items → t.made ≡ s.made → t.dying.items ≡ s.dying.items → t.lost ≡ s.lost → Stands o s rows → Stands o t rows
 stands_mixed {A} o s t rows seed mixes same by slots made dying lost stands = record {
   list = stands.list;

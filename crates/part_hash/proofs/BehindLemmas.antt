@@ -1,4 +1,4 @@
--- The rows behind that of a key.
+-- The rows after that of a key.
 use Rattle.std.proofs.Common.{◌≡◌, ℕ, ◌<◌, ◌+◌, List, [], ◌∷◌, ◌++◌, refl, ap, sym, subst, ◌∙◌, arith}
 use Rattle.std.specs.Prelude.{true, false, nat_le, Some, All}
 use Rattle.std.specs.Map.{values_of}
@@ -20,7 +20,7 @@ use Rattle.part_hash.specs.Standing.{IsRising, Stands}
 use Rattle.part_hash.specs.Classes.{made_from}
 use Rattle.part_engine.specs.Sets.{rows_from}
 use Rattle.part_hash.proofs.StandLemmas.{some_is}
-use Rattle.part_engine.proofs.WalkLemmas.{walk_behind}
+use Rattle.part_engine.proofs.WalkLemmas.{walk_after}
 
 -- rows with the first of a key
 pub record IsSplit (k : Datum) (list : List Standing) : Type 0 where
@@ -61,7 +61,7 @@ after_it (e ∷ before) it after rising =
     last_of [] later = All-head (λ (f : Standing). e.0.made < f.0.made) it after later
     last_of (f ∷ es) later = last_of es (All-tail (λ (f : Standing). e.0.made < f.0.made) f (es ++ it ∷ after) later)
 
--- what is walked behind the row of a key, before which so many were made
+-- what a walk has after the row of a key, before which `made` rows were created
 pub behind : {A : Type 0} {o : Settings} {store : Store A} {rows : List Row} (base : ℕ) (k : Datum) (at made : ℕ) (row : Row) (s : Stands o store rows) → is_ordered o.kind ≡ false → class_at o base k < base → get store.rows at ≡ Some (row, made) → row.0 ≡ k → (made < store.made) × (rows_past k (walk_order o base rows) ≡ in_class o base (class_at o base k) (made_from (made + 1) s.list) ++ rows_from o base (class_at o base k + 1) rows)
 behind {A} {o} {store} {rows} base k at made row s kind below here own =
     let there : has_row rows k ≡ true = ap (has_row rows) (sym own) ∙ s.found.those at (row, made) here in
@@ -70,7 +70,7 @@ behind {A} {o} {store} {rows} base k at made row s kind below here own =
     let same : at ≡ sp.it.0.at = s.found.once at sp.it.0.at (row, made) (sp.it.1, sp.it.0.made) here stood (ap (λ (j : Datum). is_same j sp.it.1.0) own ∙ sp.there) in
     let number : made ≡ sp.it.0.made = ap (λ (t : Kept). t.1) (some_is (sym here ∙ ap (get store.rows) same ∙ stood)) in (
       subst (λ n. n < store.made) (sym number) (it_of (λ (e : Standing). e.0.made < store.made) sp.before sp.it sp.after (subst (All (λ (e : Standing). e.0.made < store.made)) sp.whole s.placed.below)),
-      walk_behind o base k rows (values_of sp.before) sp.it.1 (values_of sp.after) kind below (s.are ∙ ap values_of sp.whole ∙ map-append (λ (e : Standing). e.1) sp.before (sp.it ∷ sp.after)) sp.first sp.there
+      walk_after o base k rows (values_of sp.before) sp.it.1 (values_of sp.after) kind below (s.are ∙ ap values_of sp.whole ∙ map-append (λ (e : Standing). e.1) sp.before (sp.it ∷ sp.after)) sp.first sp.there
           ∙ ap (λ rs. in_class o base (class_at o base k) rs ++ rows_from o base (class_at o base k + 1) rows) (sym (ap (λ n. made_from (n + 1) s.list) number ∙ ap (made_from (sp.it.0.made + 1)) sp.whole ∙ after_it sp.before sp.it sp.after (subst IsRising sp.whole s.placed.rising))),
     )
   where

@@ -25,7 +25,7 @@ use Rattle.part_hash.specs.Standing.{AreLow}
 use Rattle.part_hash.proofs.StandLemmas.{IsOwn}
 use Rattle.part_hash.proofs.SlotLemmas.{listed_behind, listed_less, listed_lost, listed_on}
 
--- so many slots list the places of their rows
+-- the first `count` slots list the places of their rows
 abbrev Lists : Settings → Slab Kept → ℕ → ℕ → List Listing → List Standing → Type 0
 Lists o slab made count slots list = (j : ℕ) → j < count → IsListed slab made (listing_at slots j) (places_in o count j list)
 
@@ -41,7 +41,7 @@ where_more q list e =
     of true = refl
     of false = refl
 
--- a place behind those of the slot of its row's hash
+-- a place is appended to those of the slot of its row's hash
 pub listed_more : (o : Settings) (slab new : Slab Kept) (slots : List Listing) (list : List Standing) (p : Place) (row : Row) (hash number : ℕ) (before after : Listing) → 0 < length slots → hash ≡ key_hash row.0 → number ≡ (hash / spread o) % length slots → before ≡ get_or slots number before → Adds slab p before after → IsAdded slab new p row → AreListed o slab p.made slots list → AreListed o new (p.made + 1) (set slots number after) (list ++ (p, row) ∷ [])
 listed_more o slab new slots list p row hash number before after some is at there adds added listed =
     subst (λ n. Lists o new (p.made + 1) n (set slots number after) (list ++ (p, row) ∷ [])) (sym (length-set slots number after)) each

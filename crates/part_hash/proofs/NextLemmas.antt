@@ -72,7 +72,7 @@ first_either t u (e ∷ list) rising =
 
 -- ---- turn by turn
 
--- it stands in a slot of one of the first turns
+-- the row is in a slot of one of the first n turns
 abbrev comes_below : (ℕ → Standing → Bool) → ℕ → Standing → Bool
 comes_below t zero e = false
 comes_below t (suc n) e = comes_below t n e || t n e
@@ -110,7 +110,7 @@ earliest_agree f g (suc turns) same =
 
 -- ---- the rows
 
--- a live row of a class, made after so many
+-- a live row of a class, created after the first `from` rows
 abbrev pub comes_next : Settings → ℕ → ℕ → ℕ → Standing → Bool
 comes_next o base class from e =
     nat_le from e.0.made && (is_live e.1 && (class_at o base e.1.0 == class))

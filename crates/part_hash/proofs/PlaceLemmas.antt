@@ -51,7 +51,7 @@ never : (b : Bool) → (b && false) ≡ false
 never true = refl
 never false = refl
 
--- a row made after so many that passes isn't found where none stands
+-- a place at which no row is has no row that was created after the first `from` rows and passes the test
 none_next : (slab : Slab Kept) (test : Row → Bool) (from : ℕ) (p : Place) → is_standing slab p ≡ false → (nat_le from p.made && option_map_or test (row_of slab p) false) ≡ false
 none_next slab test from p gone =
     ap (λ (r : Option Row). nat_le from p.made && option_map_or test r false) (none_is (row_of slab p) gone) ∙ never (nat_le from p.made)

@@ -19,7 +19,7 @@ use Rattle.part_core.proofs.KeyedLemmas.{written_of}
 use Rattle.part_rows.specs.declared.put.Put.TheVariants.{Kept, Revived, Done}
 use Rattle.part_rows.specs.Puts.{put_at}
 
--- an object that is put in is put in among those of its key's row
+-- inserting an object changes the objects of its key's row
 pub put_there : (o : Settings) (t : Datum) (rows : List Row) → has_row rows (key_of o t) ≡ true → IsDistinct is_same (keys_of rows) → rows_at_key (key_of o t) (λ _. objects_with o.kind (objects_at rows (key_of o t)) t) rows ≡ with_object o t rows
 put_there o t rows there apart =
     sym (written_of (key_of o t) (λ os. objects_with o.kind os t) (objects_at rows (key_of o t)) rows apart refl) ∙ rw there refl

@@ -113,7 +113,7 @@ listed_on slab new p row v places added s =
       front = s.front;
     }
 
--- its own has the place behind the others
+-- the slot of the added row has its place after the others
 pub listed_behind : (slab new : Slab Kept) (p : Place) (row : Row) (v : Listing) (places : List Place) → IsAdded slab new p row → IsListed slab p.made v places → IsListed new (p.made + 1) (v.0 ++ p ∷ [], v.1, v.2) (places ++ p ∷ [])
 listed_behind slab new p row v places added s =
     let on = listed_on slab new p row v places added s in
@@ -155,7 +155,7 @@ standing_less slab new at updates (p ∷ places) =
     (λ other. let stands : is_standing new p ≡ true = less ∙ rw (stood, other) refl in rw (stands, stood, other) (ap (λ ps. p ∷ ps) rest)))
     (λ went. let gone : is_standing new p ≡ false = less ∙ rw went refl in rw (gone, went) rest)
 
--- it is gone beside those that were
+-- after the row at a key is removed, the places that are gone are those that were, and those at which this row was
 gone_more : (slab new : Slab Kept) (at : ℕ) → Updates slab new at None → (places : List Place) → length (filter (is_gone new) places) ≡ length (filter (is_gone slab) places) + length (filter (λ (p : Place). p.at == at) (standing slab places))
 gone_more slab new at updates [] = refl
 gone_more slab new at updates (p ∷ places) =

@@ -34,7 +34,7 @@ none_some e = cc
 own_made : (p : Place) (ps : List Place) → filter (is_made p.made) (p ∷ ps) ≡ p ∷ filter (is_made p.made) ps
 own_made p ps = let same : (p.made == p.made) ≡ true = eq-eqb _ _ refl in rw same refl
 
--- where each number has the same places, rising lists are one
+-- two ascending lists of places that have the same places with each number are equal
 pub same_places : (ps qs : List Place) → IsNonDecreasingBy (λ (p : Place). p.made) ps → Rise qs → ((n : ℕ) → filter (is_made n) ps ≡ filter (is_made n) qs) → ps ≡ qs
 same_places [] [] up rise same = refl
 same_places [] (q ∷ qs) up rise same = absurd (none_some (same q.made ∙ own_made q qs))

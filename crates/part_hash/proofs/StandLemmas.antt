@@ -30,7 +30,7 @@ pub made_there : (found : Option Kept) (row : Row) → option_map (λ (s : Kept)
 made_there None row is = absurd (None≢Some is)
 made_there (Some s) row is = (s.1, ap (λ (r : Row). Some (r, s.1)) (some_is is))
 
--- a row stands at its place
+-- a row is at its place
 pub at_place : (slab : Slab Kept) (e : Standing) → get slab e.0.at ≡ Some (e.1, e.0.made) → row_of slab e.0 ≡ Some e.1
 at_place slab e there =
     let own : (e.0.made == e.0.made) ≡ true = eq-eqb e.0.made e.0.made refl in

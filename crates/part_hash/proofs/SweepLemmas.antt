@@ -1,4 +1,4 @@
--- Dead rows that are let go.
+-- Dead rows that are removed.
 use Rattle.std.proofs.Common.{◌≡◌, ◌≢◌, ℕ, ◌<◌, ◌≤◌, ◌+◌, zero, suc, List, [], ◌∷◌, refl, ap, sym, ◌∙◌, length, drop, get_or, arith, eq-eqb}
 use Rattle.std.specs.Prelude.{Bool, true, false, not, ◌==◌, Option, Some, None, All, filter, nat_lt}
 use Rattle.std.specs.List.{list_any}
@@ -53,7 +53,7 @@ pub dead_none : (slab : Slab Kept) (at bound : ℕ) → bound ≤ at → ((i : �
 dead_none slab at bound over from below i =
     by_test (is_dead_at slab i) _ (λ dead. absurd (omega (arith, over, from i dead, below i dead))) (λ live. live)
 
--- of keys that were noted, those behind the first
+-- of the keys that were noted, those after the first
 pub noted_behind : (ns : List ℕ) (number at : ℕ) → number < length ns → list_any (λ n. n == at) (drop number ns) ≡ true → (get_or ns number 0 == at) ≡ false → list_any (λ n. n == at) (drop (suc number) ns) ≡ true
 noted_behind [] number at within noted other = absurd (omega (arith, within))
 noted_behind (n ∷ ns) zero at within noted other = rw other at noted

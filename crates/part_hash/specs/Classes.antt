@@ -25,21 +25,21 @@ earlier None q = q
 earlier (Some p) None = Some p
 earlier (Some p) (Some q) = if nat_le p.made q.made then Some p else Some q
 
--- the earliest of so many
+-- the earliest of the first n places
 abbrev pub earliest : (ℕ → Option Place) → ℕ → Option Place
 earliest f zero = None
 earliest f (suc n) = earlier (earliest f n) (f n)
 
--- a live row of a class, made after so many
+-- the row at a place is a live one of a class, created after the first `from` rows
 abbrev pub is_next : Settings → ℕ → ℕ → ℕ → Slab Kept → Place → Bool
 is_next o base class from slab p =
     nat_le from p.made && option_map_or (λ r. is_live r && (class_at o base r.0 == class)) (row_of slab p) false
 
--- the rows made after so many
+-- the rows created after the first `from` rows
 abbrev pub made_from : ℕ → List Standing → List Row
 made_from from list = values_of (filter (λ e. nat_le from e.0.made) list)
 
--- the first live row of a class, made after so many
+-- the first live row of a class created after the first `from` rows
 abbrev pub next_of_class : Settings → ℕ → ℕ → ℕ → Slab Kept → List Listing → Option Place
 next_of_class o base class from slab slots =
     earliest (λ n. find (is_next o base class from slab) (listing_at slots (slot_of_class (length slots) base class n)).0)

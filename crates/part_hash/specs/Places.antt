@@ -1,4 +1,4 @@
--- In which slot a key stands, and which rows stand at places.
+-- In which slot a key is, and which rows are at places.
 use Rattle.std.specs.Prelude.{ℕ, ◌/◌, ◌%◌, ◌^◌, ◌==◌, Bool, false, if◌then◌else◌, Option, Some, None, is_some, filter, filter_map, map, List}
 use Rattle.std.specs.Option.{option_map, option_map_or}
 use Rattle.slab.specs.Slab.{Slab, get}
@@ -20,7 +20,7 @@ Kept = Row × ℕ
 abbrev pub spread : Settings → ℕ
 spread o = if o.parts == 0 then 1 else o.parts
 
--- the slot of a key among so many
+-- the slot of a key among `count` slots
 abbrev pub slot_at : Settings → ℕ → Datum → ℕ
 slot_at o count k = (key_hash k / spread o) % count
 
@@ -36,7 +36,7 @@ places_where q list = map (λ e. e.0) (filter (λ e. q e.1.0) list)
 abbrev pub places_in : Settings → ℕ → ℕ → List Standing → List Place
 places_in o count j list = places_where (λ k. slot_at o count k == j) list
 
--- a row, if so many were made before it
+-- a row, if n rows were created before it
 abbrev pub if_made : ℕ → Option Kept → Option Row
 if_made n None = None
 if_made n (Some s) = if s.1 == n then Some s.0 else None
@@ -45,11 +45,11 @@ if_made n (Some s) = if s.1 == n then Some s.0 else None
 abbrev pub row_in : Slab Kept → ℕ → Option Row
 row_in slab at = option_map (λ s. s.0) (get slab at)
 
--- the row that stands at a place: that at its key of the slab, unless it was made later
+-- the row that is at a place: that at its key of the slab, unless it was created later
 abbrev pub row_of : Slab Kept → Place → Option Row
 row_of slab p = if_made p.made (get slab p.at)
 
--- a row stands at a place
+-- a row is at a place
 abbrev pub is_standing : Slab Kept → Place → Bool
 is_standing slab p = is_some (row_of slab p)
 
@@ -57,7 +57,7 @@ is_standing slab p = is_some (row_of slab p)
 abbrev pub standing : Slab Kept → List Place → List Place
 standing slab places = filter (is_standing slab) places
 
--- the rows that stand at places
+-- the rows that are at places
 abbrev pub rows_of : Slab Kept → List Place → List Row
 rows_of slab places = filter_map (row_of slab) places
 

@@ -7,7 +7,7 @@ use Rattle.part_hash.specs.declared.store.Store.{Store}
 use Rattle.part_hash.specs.Places.{spread as spread_of}
 use Rattle.part_hash.specs.Standing.{Stands}
 
--- these rows, in so many slots, are those of a table that is served
+-- these rows, with this number of slots, are those of a table that is served
 pub record IsShown {A : Type 0} (o : Settings) (store : Store A) (divisor : ℕ) (w : Shown) : Type 0 where
   pub served : IsTrue (serves o.kind)
   pub rows : Stands o store w.rows

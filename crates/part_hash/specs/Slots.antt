@@ -22,21 +22,21 @@ listing_at slots j = get_or slots j no_listing
 abbrev pub with_gone : Listing → Listing
 with_gone v = (v.0, v.1 + 1, v.2)
 
--- no row stands there
+-- no row is at the place
 abbrev pub is_gone : Slab Kept → Place → Bool
 is_gone slab p = not (is_standing slab p)
 
--- the row of each was made before those of the places behind it
+-- the row of each place was created before those of the places after it
 abbrev pub AreRising : List Place → Type 0
 AreRising [] = ⊤
 AreRising (p ∷ ps) = All (λ q. p.made < q.made) ps × AreRising ps
 
--- a test that places of rows made after so many pass alone finds the same place first
+-- a test that only places of rows created after the first `from` rows pass finds the same place first in both lists
 abbrev pub FindsSame : ℕ → List Place → List Place → Type 0
 FindsSame from places later =
     (test : Place → Bool) → find (λ p. nat_le from p.made && test p) later ≡ find (λ p. nat_le from p.made && test p) places
 
--- a slot lists these places, where so many rows were made: rows stand at them and at no other of its places, and no more
+-- a slot lists these places, when `made` rows were created: rows are at them and at no other of its places, and no more
 -- are counted as gone, or passed at the front, than are gone
 pub record IsListed (slab : Slab Kept) (made : ℕ) (v : Listing) (places : List Place) : Type 0 where
   pub there : standing slab v.0 ≡ places
@@ -49,7 +49,7 @@ pub record IsListed (slab : Slab Kept) (made : ℕ) (v : Listing) (places : List
 pub record Relists (slab : Slab Kept) (old new : Listing) : Type 0 where
   pub listed : (made : ℕ) (places : List Place) → IsListed slab made old places → IsListed slab made new places
 
--- the same, and then a place behind
+-- the slot's places are kept, maybe without places of rows that are gone, and a place is appended
 pub record Adds (slab : Slab Kept) (p : Place) (old new : Listing) : Type 0 where
   pub before : Listing
   pub kept : Relists slab old before
@@ -70,7 +70,7 @@ abbrev pub half_at : List Listing → ℕ → Listing
 half_at slots j =
     (filter (λ p. p.low % (2 * length slots) == j) (listing_at slots (j % length slots)).0, 0, 0)
 
--- a row was added, which stands at a place; at the places of rows that were made before it stands what stood there
+-- a row was added, which is at a place; at the places of rows that were created before it are the same rows as before
 pub record IsAdded (slab new : Slab Kept) (p : Place) (row : Row) : Type 0 where
   pub here : row_of new p ≡ Some row
   pub others : (q : Place) → q.made < p.made → row_of new q ≡ row_of slab q

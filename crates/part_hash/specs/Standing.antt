@@ -1,4 +1,4 @@
--- The rows that stand in a slab, found by an index and listed in slots.
+-- The rows that are in a slab, found by an index and listed in slots.
 use Rattle.std.specs.Prelude.{ℕ, ◌≡◌, ◌<◌, ◌||◌, ◌==◌, ⊤, Bool, true, All, Some, List, [], ◌∷◌, length}
 use Rattle.std.specs.List.{IsDistinct, list_any}
 use Rattle.std.specs.Map.{keys_of, values_of}
@@ -14,7 +14,7 @@ use Rattle.part_hash.specs.Places.{Kept, Standing, low_of}
 use Rattle.part_hash.specs.Slots.{AreListed}
 use Rattle.part_hash.specs.Swept.{is_dead_at}
 
--- each was made before those behind it
+-- each row was created before those after it
 abbrev pub IsRising : List Standing → Type 0
 IsRising [] = ⊤
 IsRising (e ∷ es) = All (λ f. e.0.made < f.0.made) es × IsRising es
@@ -27,7 +27,7 @@ AreAt slab list = All (λ e. get slab e.0.at ≡ Some (e.1, e.0.made)) list
 abbrev pub AreLow : Settings → List Standing → Type 0
 AreLow o list = All (λ e. e.0.low ≡ low_of o e.1.0) list
 
--- rows at their places, in the order in which they were made, and so many were made in all
+-- rows at their places, in the order in which they were created, when `made` rows were created in all
 pub record ArePlaced (o : Settings) (slab : Slab Kept) (made : ℕ) (list : List Standing) : Type 0 where
   pub stands : AreAt slab list
   pub rising : IsRising list

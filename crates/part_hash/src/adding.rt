@@ -29,9 +29,9 @@ use std::alloc::{AllocError, Allocator};
 use std::mem;
 use term_core::Term;
 
-/// How many cells of the index a search may pass before all hashes are mixed anew. The longest that a simulation of 25
-/// million rows with hashes by chance had, in indexes up to three quarters full, passed 222; where one does pass more,
-/// all are mixed anew once, and no harm is done.
+/// How many cells of the index a search may pass before all hashes are mixed again. The longest search in a simulation
+/// of 25 million rows with random hashes, in indexes up to three quarters full, passed 222. If one passes more, all
+/// hashes are mixed again once, which does no harm.
 const MOST_PASSED: usize = 256;
 
 /// For how many rows that die there is room at least,
@@ -39,7 +39,8 @@ const FEWEST_NOTED: usize = 64;
 /// and of how many rows one has room.
 const ROWS_A_NOTE: usize = 16;
 
-/// Those of some places that stand in a slot among so many, which divide 2^32.
+/// Returns the places that belong to the slot `number` of `count` slots, where `count` divides 2^32. Fails if an
+/// allocation fails.
 fn part<A: Allocator>(
     alloc: A,
     places: &[Place],
@@ -84,7 +85,7 @@ fn doubled<A: Allocator + Copy>(alloc: A, slots: &[Slot<A>]) -> Result<Vec<Slot<
     Ok(wide)
 }
 
-/// Puts a place behind those of the slot of a hash.
+/// Appends a place to those of the slot of a hash. Fails if an allocation fails; no place is added then.
 fn list_in<A: Allocator>(
     slots: &mut Vec<Slot<A>, A>,
     rows: &Slab<Row<A>, A>,
@@ -107,7 +108,7 @@ fn list_in<A: Allocator>(
     Ok(())
 }
 
-/// Whether slots are too few for so many rows, to which one was added.
+/// Returns whether there are too few slots for `count` rows, after one was added.
 fn are_too_few<A: Allocator>(slots: &[Slot<A>], count: usize) -> bool
     requires base { IsBase (length slots.now) }
     requires some { 0 < count }
@@ -174,7 +175,7 @@ fn enlist<A: Allocator + Copy>(
     }
 }
 
-/// Makes room for the keys of rows that die among so many.
+/// Makes room for the keys of rows that die among `count` rows. Fails if an allocation fails.
 fn reserve_notes<A: Allocator>(dying: &mut Vec<u32, A>, count: usize) -> Result<(), AllocError>
     ensures { dying.new.items ≡ dying.old.items }
 {
@@ -199,7 +200,8 @@ fn reserve<A: Allocator + Copy>(store: &mut Store<A>) -> Result<(), AllocError>
     reserve_notes(&mut store.dying, count)
 }
 
-/// At which key of the slab the next row is put in, unless there are as many rows as the index takes in.
+/// Returns the key of the slab at which the next row is inserted. Fails if there are as many rows as the index can
+/// have.
 fn vacant<A: Allocator>(rows: &Slab<Row<A>, A>) -> Result<u32, AllocError>
     ensures at { IfOk result (λ at. at ≡ rows.now.vacant_key) }
     ensures small { IfOk result (λ at. at < 2 ^ 32 - 1) }
@@ -258,7 +260,8 @@ fn mix_by<A: Allocator + Copy>(
     Ok(())
 }
 
-/// Mixes all hashes anew, if there is memory: where searches are long, keys have hashes that are alike.
+/// Mixes all hashes again with another seed, for keys whose hashes are alike and make searches long. If an allocation
+/// fails, nothing is changed.
 fn mix<A: Allocator + Copy>(store: &mut Store<A>)
     ensures kept { (o : AnySettings) (rows : List AnyRow) → Stands o store.old rows → Stands o store.new rows }
     ensures slots { length store.new.slots.items ≡ length store.old.slots.items }
@@ -270,7 +273,7 @@ fn mix<A: Allocator + Copy>(store: &mut Store<A>)
     }
 }
 
-/// Mixes all hashes anew where a search passes too many cells.
+/// Mixes all hashes again if a search passes more than 256 cells.
 fn keep_short<A: Allocator + Copy>(store: &mut Store<A>, passed: usize)
     ensures kept { (o : AnySettings) (rows : List AnyRow) → Stands o store.old rows → Stands o store.new rows }
     ensures slots { length store.new.slots.items ≡ length store.old.slots.items }

@@ -17,7 +17,7 @@ use slab::Slab;
 use std::alloc::{AllocError, Allocator};
 use term_core::Term;
 
-/// Puts copies of the objects of the row at a place behind others.
+/// Appends copies of the objects of the row at a place to `into`, if one is there. Fails if an allocation fails.
 fn gather_row<A: Allocator + Copy>(
     rows: &Slab<Row<A>, A>,
     place: Place,
@@ -32,7 +32,7 @@ fn gather_row<A: Allocator + Copy>(
     Ok(())
 }
 
-/// Puts copies of the objects of the rows at places behind others.
+/// Appends copies of the objects of the rows at places to `into`. Fails if an allocation fails.
 fn gather_places<A: Allocator + Copy>(
     rows: &Slab<Row<A>, A>,
     places: &[Place],
@@ -47,7 +47,7 @@ fn gather_places<A: Allocator + Copy>(
     Ok(())
 }
 
-/// Puts copies of the objects of a class behind others.
+/// Appends copies of the objects of a class to `into`. Fails if an allocation fails.
 fn gather_class<A: Allocator + Copy>(
     store: &Store<A>,
     settings: Settings,
@@ -70,7 +70,7 @@ fn gather_class<A: Allocator + Copy>(
     Ok(())
 }
 
-/// Puts copies of the objects of all classes behind others.
+/// Appends copies of the objects of all classes to `into`, class by class. Fails if an allocation fails.
 pub(crate) fn gather<A: Allocator + Copy>(
     store: &Store<A>,
     settings: Settings,

@@ -9,8 +9,8 @@
 //! - `row`: a row that remembers how many were made before it; `places`: places, and the slots that list them
 //!   (`specs/Slots.antt`); `mixing`: mixed hashes, by a seed; `store`: these together; `finding`: the row of a key, and
 //!   what is held of it.
-//! - `adding`: a row behind the others, with the doubling of the slots and another seed where searches have become
-//!   long; `putting`: objects put in; `removing`: what is exchanged, and rows that go.
+//! - `adding`: appending a row, with the doubling of the slots and another seed if searches have become long;
+//!   `putting`: objects put in; `removing`: what is exchanged, and rows that go.
 //! - `walking`: the next live row of a class, by any base, with no memory (`specs/Classes.antt`); `looking`,
 //!   `gathering`: the rows of a class, which by another base than the number of slots are sorted from several slots.
 //! - `laws`: parts may be sent to other threads (`proofs/SendLemmas.antt`).

@@ -23,7 +23,7 @@ use slab::Slab;
 use std::alloc::{AllocError, Allocator};
 use term_core::Term;
 
-/// Puts those places behind others whose rows are of a class.
+/// Appends the places whose rows are of a class to `into`. Fails if an allocation fails.
 fn gather_places<A: Allocator>(
     rows: &Slab<Row<A>, A>,
     settings: Settings,
@@ -114,7 +114,7 @@ pub(crate) fn places_of_class<A: Allocator + Copy>(
     Ok(places)
 }
 
-/// Puts the row at a key of the slab behind others.
+/// Appends the row at a key of the slab to `into`, if there is one. Fails if an allocation fails.
 fn look_at_row<'r, A: Allocator>(
     rows: &'r Slab<Row<A>, A>,
     at: usize,
@@ -128,7 +128,7 @@ fn look_at_row<'r, A: Allocator>(
     Ok(())
 }
 
-/// Puts the row at a place behind others.
+/// Appends the row at a place to `into`, if one is there. Fails if an allocation fails.
 fn look_at_place<'r, A: Allocator>(
     rows: &'r Slab<Row<A>, A>,
     place: Place,
@@ -142,7 +142,7 @@ fn look_at_place<'r, A: Allocator>(
     Ok(())
 }
 
-/// Puts the rows at places behind others.
+/// Appends the rows at places to `into`. Fails if an allocation fails.
 fn look_at_places<'r, A: Allocator>(
     rows: &'r Slab<Row<A>, A>,
     places: &[Place],
@@ -174,7 +174,7 @@ pub(crate) fn listed_in<A: Allocator>(
     None
 }
 
-/// Puts the rows of a class behind others.
+/// Appends the rows of a class to `into`. Fails if an allocation fails.
 fn look_in<'r, A: Allocator + Copy>(
     store: &'r Store<A>,
     settings: Settings,
@@ -197,7 +197,7 @@ fn look_in<'r, A: Allocator + Copy>(
     Ok(())
 }
 
-/// Puts the row of a key behind others.
+/// Appends the row of a key to `into`, if it has one. Fails if an allocation fails.
 fn look_at<'r, A: Allocator>(
     store: &'r Store<A>,
     _settings: Settings,
@@ -214,7 +214,7 @@ fn look_at<'r, A: Allocator>(
     Ok(())
 }
 
-/// Puts the rows that a visit of a set looks at behind others.
+/// Appends the rows that a visit of a set looks at to `into`. Fails if an allocation fails.
 pub(crate) fn look<'r, A: Allocator + Copy>(
     store: &'r Store<A>,
     settings: Settings,

@@ -23,7 +23,7 @@ pub struct Slot<A: Allocator> {
     gone: u32,
     // How many places at the front are known to be of rows that have gone.
     front: u32,
-    // Whether there may be places of rows that have gone beside those that are counted.
+    // Whether there may be places of rows that are gone in addition to those that are counted.
     uncounted: bool,
 }
 
@@ -54,7 +54,7 @@ pub(crate) fn spread_of(settings: Settings) -> u64
     }
 }
 
-/// The slot, among so many, of a key with a hash.
+/// Returns the slot of a key among `count` slots, given the key's hash.
 pub(crate) fn slot_of(spread: u64, hash: u64, count: u64) -> u64
     requires spread { 0 < spread }
     requires count { 0 < count }
@@ -72,7 +72,7 @@ pub(crate) fn low_of(spread: u64, hash: u64) -> u32
     (hash / spread % (1 << 32)) as u32
 }
 
-/// The row that stands at a place.
+/// Returns the row that is at a place, or `None`.
 pub(crate) fn row_at<A: Allocator>(rows: &Slab<Row<A>, A>, place: Place) -> Option<SeenRow<'_, A>>
     ensures { result ≡ row_of rows.now place }
 {
@@ -88,7 +88,7 @@ pub(crate) fn row_at<A: Allocator>(rows: &Slab<Row<A>, A>, place: Place) -> Opti
     }
 }
 
-/// Whether a row stands at a place.
+/// Returns whether a row is at a place.
 fn is_standing<A: Allocator>(rows: &Slab<Row<A>, A>, place: Place) -> bool
     ensures { result ≡ is_standing rows.now place }
 {
@@ -122,7 +122,7 @@ fn capped(number: usize) -> u32
     number.min(u32::MAX as usize) as u32
 }
 
-/// Whether a row before which so many were made was made after those at places.
+/// Returns whether a row before which `made` rows were created was created after those at `places`.
 fn is_last(places: &[Place], made: u64) -> bool
     ensures { IsTrue result → AreRising places.now → All (λ p. p.made < made) places.now }
 {
@@ -132,7 +132,7 @@ fn is_last(places: &[Place], made: u64) -> bool
     }
 }
 
-/// The places from the first on whose row was made after so many.
+/// Returns the places from the first one on whose row was created after the first `from` rows.
 pub(crate) fn later(places: &[Place], from: u64) -> &[Place]
     ensures { AreRising places.now → FindsSame from places.now result.now }
 {
@@ -140,7 +140,7 @@ pub(crate) fn later(places: &[Place], from: u64) -> &[Place]
     &places[begin..]
 }
 
-/// Whether so many places that have gone are many among all: more than a few, and than three quarters.
+/// Returns whether `gone` places of `count` are many: more than a few, and more than three quarters.
 fn are_many(gone: usize, count: usize) -> bool {
     FEW < gone && count - count / 4 < gone
 }
@@ -192,8 +192,8 @@ impl<A: Allocator> Slot<A> {
         &self.places[self.front as usize..]
     }
 
-    /// Puts a place behind the others. Where that wants memory, and a quarter of the rows have gone, the others move up
-    /// instead.
+    /// Appends a place. If this needs memory, and a quarter of the rows are gone, the other places are moved up
+    /// instead. Fails if an allocation fails; no place is added then.
     pub fn push(&mut self, rows: &Slab<Row<A>, A>, place: Place) -> Result<(), AllocError>
         ensures done { OnOk result (Adds rows.now place self.old self.new) }
         ensures refused { OnErr result (Relists rows.now self.old self.new) }
@@ -203,7 +203,7 @@ impl<A: Allocator> Slot<A> {
             return Err(AllocError);
         }
         self.make_room(rows);
-        self.put_behind(place)
+        self.put_last(place)
     }
 
     /// Lets the places go of rows that have gone, where there is no room for one more and they are a quarter.
@@ -217,8 +217,8 @@ impl<A: Allocator> Slot<A> {
         }
     }
 
-    /// Puts a place behind the others.
-    fn put_behind(&mut self, place: Place) -> Result<(), AllocError>
+    /// Appends a place. If an allocation fails, nothing is changed.
+    fn put_last(&mut self, place: Place) -> Result<(), AllocError>
         requires { All (λ p. p.made < place.made) self.old.0 }
         ensures done { OnOk result (self.new ≡ (self.old.0 ++ place ∷ [], self.old.1, self.old.2)) }
         ensures refused { OnErr result (self.new ≡ self.old) }
@@ -227,8 +227,8 @@ impl<A: Allocator> Slot<A> {
         Ok(())
     }
 
-    /// Counts a row as gone, before which so many were made. Nothing is looked for: only where no row is left, or few
-    /// in a long slot, are the places let go.
+    /// Counts a row as gone, before which `made` rows were created. It does not search: the places are removed only if
+    /// no row is left, or few in a long slot.
     pub fn lose(&mut self, rows: &Slab<Row<A>, A>, made: u64)
         ensures { Relists rows.now (with_gone self.old) self.new }
     {
@@ -264,8 +264,8 @@ impl<A: Allocator> Slot<A> {
         self.uncounted = false;
     }
 
-    /// Where the row of the place at the front has gone, before which so many were made, that place and those behind it
-    /// at which no row stands are known to be of such rows.
+    /// If the place at the front is that of a row before which `made` rows were created, and which is gone, moves the
+    /// front past that place and those after it at which no row is.
     fn pass(&mut self, rows: &Slab<Row<A>, A>, made: u64)
         ensures { Relists rows.now self.old self.new }
     {
@@ -276,8 +276,8 @@ impl<A: Allocator> Slot<A> {
         }
     }
 
-    /// How far places of rows that have gone may reach, where that at the front is of one: no further than that where all
-    /// that have gone are counted and stand at the front.
+    /// Returns how far the places of rows that are gone may reach, if that at the front is one: no further than that
+    /// place if all rows that are gone are counted and their places are at the front.
     fn end_of_gone(&self) -> usize
         ensures front { self.now.2 ≤ result }
         ensures within { result ≤ length self.now.0 }
@@ -290,7 +290,7 @@ impl<A: Allocator> Slot<A> {
         }
     }
 
-    /// Whether the place at the front is that of a row before which so many were made.
+    /// Returns whether the place at the front is that of a row before which `made` rows were created.
     fn is_front(&self, made: u64) -> bool {
         match self.places.get(self.front as usize) {
             Some(place) => place.made == made,

@@ -23,7 +23,7 @@ use slab::Slab;
 use std::alloc::Allocator;
 use term_core::Term;
 
-/// Counts a row as gone in the slot of its key's hash, before which so many were made.
+/// Counts a row as gone in the slot of its key's hash; `made` rows were created before it.
 fn unlist<A: Allocator>(
     slots: &mut Vec<Slot<A>, A>,
     rows: &Slab<Row<A>, A>,

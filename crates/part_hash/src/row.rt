@@ -31,7 +31,7 @@ impl<A: Allocator> Row<A> {
     ghost use Rattle.std.specs.Prelude.{◌≡◌, [], ◌∷◌};
     ghost use Rattle.part_core.specs.Rows.{is_live};
 
-    /// A row of a key with one object, before which so many were made.
+    /// Returns a row of a key with one object, before which `made` rows were created.
     pub fn new(key: Term<A>, object: Term<A>, made: u64) -> Self
         ensures { result ≡ ((key, object ∷ []), made) }
     {

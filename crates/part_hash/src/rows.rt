@@ -112,7 +112,7 @@ impl<A: Allocator + Copy> Rows<A> for HashRows<A> {
         first_live(&self.store, settings, u64::from(base))
     }
 
-    fn key_behind(&self, settings: Settings, base: u32, key: &Term<A>) -> Option<&Term<A>> {
+    fn following_key(&self, settings: Settings, base: u32, key: &Term<A>) -> Option<&Term<A>> {
         live_past(&self.store, settings, u64::from(base), key)
     }
 

@@ -32,7 +32,7 @@ pub(crate) fn is_in<A: Allocator>(settings: Settings, base: u64, class: u64, key
     class_of(settings, base, key.key_hash()) == class
 }
 
-/// Whether there is a live row of a class at a place, made after so many.
+/// Returns whether the row at a place is a live one of a class, created after the first `from` rows.
 fn is_next<A: Allocator>(
     rows: &Slab<Row<A>, A>,
     settings: Settings,
@@ -92,7 +92,7 @@ fn earlier(first: Option<Place>, second: Option<Place>) -> Option<Place>
     }
 }
 
-/// By how many the slots are apart in which rows of a class may stand, where there are so many.
+/// Returns the distance of the slots in which rows of a class may be, if there are `count` slots.
 pub(crate) fn step_of(count: u64, base: u64) -> u64
     requires { 0 < base }
     ensures value { result ≡ step_between count base }
@@ -112,7 +112,7 @@ pub(crate) fn slot_in<A: Allocator>(slots: &[Slot<A>], base: u64, class: u64, tu
     &slots[(class % step + turn * step) as usize]
 }
 
-/// The first place of a live row of a class, made after so many.
+/// Returns the first place of a live row of a class, created after the first `from` rows, or `None`.
 fn next_place<A: Allocator>(
     store: &Store<A>,
     settings: Settings,
@@ -145,7 +145,7 @@ fn key_at<A: Allocator>(rows: &Slab<Row<A>, A>, place: Place) -> Option<&Term<A>
     }
 }
 
-/// The key of the first live row of a class, made after so many.
+/// Returns the key of the first live row of a class, created after the first `from` rows, or `None`.
 fn live_in<A: Allocator>(
     store: &Store<A>,
     settings: Settings,
@@ -202,8 +202,9 @@ pub(crate) fn first_live<A: Allocator>(
     live_from(store, settings, base, 0)
 }
 
-/// The key of the first live row of a class, made after so many, or of a class above.
-fn live_behind<A: Allocator>(
+/// Returns the key of the first live row of a class created after the first `from` rows, or else of a class above, or
+/// `None`.
+fn live_after<A: Allocator>(
     store: &Store<A>,
     settings: Settings,
     base: u64,
@@ -223,7 +224,7 @@ fn live_behind<A: Allocator>(
     }
 }
 
-/// How many rows were made up to that at a key of the slab, where so many were made in all.
+/// Returns how many rows were created up to that at a key of the slab, if `made` were created in all.
 fn made_to<A: Allocator>(rows: &Slab<Row<A>, A>, at: usize, made: u64) -> u64
     ensures { (s : Kept) → get rows.now at ≡ Some s → s.1 < made → result ≡ s.1 + 1 }
 {
@@ -239,7 +240,7 @@ fn made_to<A: Allocator>(rows: &Slab<Row<A>, A>, at: usize, made: u64) -> u64
     }
 }
 
-/// The key of the first live row behind that of a key.
+/// Returns the key of the first live row after that of a key, in walk order, or `None`.
 pub(crate) fn live_past<'r, A: Allocator>(
     store: &'r Store<A>,
     settings: Settings,
@@ -257,5 +258,5 @@ pub(crate) fn live_past<'r, A: Allocator>(
     };
     let from = made_to(&store.rows, at, store.made);
     let class = class_of(settings, base, key.key_hash());
-    live_behind(store, settings, base, class, from)
+    live_after(store, settings, base, class, from)
 }

@@ -1,5 +1,5 @@
--- The part of an ordered set may be sent to other threads, where its memory is the heap's: what is known of maps stands
--- at it.
+-- The part of an ordered set may be sent to other threads if it uses the global allocator: this follows from what is
+-- known of maps.
 use denote.Param.Send.{IsSend, sendable}
 use Rattle.std.proofs.Crossing as heap
 use Rattle.std.proofs.MapsCrossing as maps

@@ -1,4 +1,4 @@
--- What rows in a tree show, by what is done with their entries.
+-- What rows in a tree show, depending on what is done with its entries.
 use Rattle.std.proofs.Common.{◌≡◌, ℕ, ◌<◌, List, ap, sym, subst, ◌∙◌, length}
 use Rattle.std.specs.Prelude.{Bool, true, false, if◌then◌else◌, filter}
 use Rattle.std.specs.List.{IsDistinct}
@@ -17,7 +17,7 @@ pub apart_shown : (o : Settings) (rows : List Row) (w : Shown) → IsShown o row
 apart_shown o rows w shows sound =
     subst (λ (rs : List Row). IsDistinct is_same (keys_of rs)) shows.rows sound.rows.distinct
 
--- the order of a walk is that of the entries
+-- walk order is the order of the entries
 pub walk_shown : (o : Settings) (base : ℕ) (rows : List Row) (w : Shown) → IsShown o rows w → walk_order o base w.rows ≡ rows
 unfolding walk_order
 walk_shown o base rows w shows =
@@ -34,7 +34,7 @@ exchange_shows o rows now w k before after keeps there shows is held written = (
   },
 )
 
--- an object that is put in, or is not
+-- what rows show after an object is inserted, or is not
 pub put_shows : (o : Settings) (t : Datum) (rows now : List Row) (w : Shown) (b : Bool) → IsShown o rows w → now ≡ (if b then with_object o t rows else rows) → IsShown o now (if b then shown_with o t w else w)
 put_shows o t rows now w true shows is =
     let ordered : is_ordered o.kind ≡ true = ap is_ordered shows.kind in
@@ -45,7 +45,7 @@ put_shows o t rows now w true shows is =
     }
 put_shows o t rows now w false shows is = record { kind = shows.kind; rows = shows.rows ∙ sym is; slots = shows.slots }
 
--- so few are shown as there are
+-- rows show as many rows as there are entries
 pub few_shows : (o : Settings) (rows : List Row) (w : Shown) (most : ℕ) → IsShown o rows w → length rows < most → length w.rows < most
 few_shows o rows w most shows few =
     subst (λ (rs : List Row). length rs < most) (sym shows.rows) few

@@ -1,4 +1,4 @@
--- What writing in a tree leaves of its rows.
+-- How writing in a tree changes its rows.
 use Rattle.std.proofs.Common.{◌≡◌, List, [], ◌∷◌, refl, ap, sym, ◌∙◌}
 use Rattle.std.specs.Prelude.{Bool, true, false, not, Option, Some, None}
 use Rattle.std.specs.List.{IsDistinct, AllByRecursion}
@@ -27,7 +27,7 @@ use Rattle.part_rows.specs.Puts.{is_put, put_at}
 
 -- ---- what is written at a key
 
--- where the key has no row, nothing is written
+-- if the key has no row, nothing is written
 pub set_nowhere : (k : Datum) (os : List Datum) (rows : List Row) → has_row rows k ≡ false → set_value (is_same k) rows os ≡ rows
 set_nowhere k os [] none = refl
 set_nowhere k os (r ∷ rows) none =
@@ -35,7 +35,7 @@ set_nowhere k os (r ∷ rows) none =
     (λ here. absurd (true≢false (rw here at none)))
     (λ other. rw other (ap (λ rs. r ∷ rs) (set_nowhere k os rows (rw other at none))))
 
--- ---- putting objects in
+-- ---- insertions
 
 -- a key that is below all others has no row
 none_below : (k : Datum) (rows : List Row) → AllByRecursion (λ l. datum_cmp k l ≡ Less) (keys_of rows) → has_row rows k ≡ false
@@ -43,7 +43,7 @@ none_below k [] below = refl
 none_below k (r ∷ rows) below =
     let other : is_same k r.0 ≡ false = ap is_eq below.0 in rw other (none_below k rows below.1)
 
--- a key that has a row takes the objects at its place
+-- inserting at a key that has a row replaces its objects where it is
 put_over : (k : Datum) (os : List Datum) (rows : List Row) → IsStrictlySortedBy datum_cmp (keys_of rows) → IsDistinct is_same (keys_of rows) → has_row rows k ≡ true → insert_entry datum_cmp rows k os ≡ rows_at_key k (λ _. os) rows
 unfolding IsStrictlySortedBy
 put_over k os [] s d there = cc
@@ -69,7 +69,7 @@ with_there o t rows kind there = rw (there, kind) refl
 with_new : (o : Settings) (t : Datum) (rows : List Row) → o.kind ≡ OrderedSet → has_row rows (key_of o t) ≡ false → with_object o t rows ≡ insert_entry datum_cmp rows (key_of o t) (t ∷ [])
 with_new o t rows kind none = rw (none, kind) refl
 
--- what a tree makes of an object that is put in
+-- inserting an entry into a tree inserts an object into its rows
 pub put_in : (o : Settings) (t : Datum) (rows : List Row) → o.kind ≡ OrderedSet → IsStrictlySortedBy datum_cmp (keys_of rows) → insert_entry datum_cmp rows (key_of o t) (t ∷ []) ≡ with_object o t rows
 put_in o t rows kind s =
     by_test (has_row rows (key_of o t)) _
@@ -78,7 +78,7 @@ put_in o t rows kind s =
 
 -- ---- what becomes of a row
 
--- what replaces is put in, whatever there is
+-- what replaces is always inserted
 pub always_put : (found : Option (List Datum)) → is_put (put_at true found) ≡ true
 always_put None = refl
 always_put (Some []) = refl
@@ -87,14 +87,14 @@ always_put (Some (t ∷ os)) = refl
 pub none_stays : (replaces : Bool) (found : Option (List Datum)) → replaces ≡ true → false ≡ not (is_put (put_at replaces found))
 none_stays replaces found all = rw all (ap not (sym (always_put found)))
 
--- what stays is kept
+-- an object that is not replaced is kept
 pub stays_there : (replaces : Bool) (found : Option (List Datum)) → not (is_put (put_at replaces found)) ≡ true → Kept ≡ put_at replaces found
 stays_there replaces None stays = absurd (true≢false (sym stays))
 stays_there replaces (Some []) stays = absurd (true≢false (sym stays))
 stays_there true (Some (t ∷ os)) stays = absurd (true≢false (sym stays))
 stays_there false (Some (t ∷ os)) stays = refl
 
--- where nothing stays, all becomes of the row that becomes of one which is replaced
+-- if the row does not keep its object, an insertion makes of it what a replacing one makes
 pub goes_over : (replaces : Bool) (found : Option (List Datum)) → not (is_put (put_at replaces found)) ≡ false → put_at true found ≡ put_at replaces found
 goes_over replaces None goes = refl
 goes_over replaces (Some []) goes = refl

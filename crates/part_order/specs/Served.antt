@@ -6,12 +6,12 @@ use Rattle.part_core.specs.declared.settings.Settings.{Settings}
 use Rattle.part_core.specs.Rows.{Row, first_slots}
 use Rattle.part_rows.specs.Shown.{Shown}
 
--- the kind that is served
+-- the kinds that are served: only ordered sets
 abbrev pub serves : TableKind → Bool
 serves OrderedSet = true
 serves kind = false
 
--- these entries of a tree are the rows of an ordered set, which stand in as many slots as when they were made
+-- these entries of a tree are the rows of an ordered set, with the number of slots of a new one
 pub record IsShown (o : Settings) (entries : List Row) (w : Shown) : Type 0 where
   pub kind : o.kind ≡ OrderedSet
   pub rows : w.rows ≡ entries

@@ -2,10 +2,10 @@
 use crate::OrderPart;
 use std::alloc::Global;
 
-/// A value may be sent.
+/// Compiles only for a value that may be sent to another thread.
 fn may_be_sent<T: Send>(_value: &T) {}
 
-/// The part of an ordered set may.
+/// States that the part of an ordered set that uses the global allocator may be sent to another thread.
 pub fn order_parts_may_be_sent(part: &OrderPart<Global>) {
     may_be_sent(part);
 }

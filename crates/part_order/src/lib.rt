@@ -1,11 +1,11 @@
-//! The rows of a part for ordered sets, which stand in a tree by their keys.
+//! The rows of a part of an ordered set, in a tree in key order.
 //!
-//! The one contract: `OrderRows` keeps the trait `Rows` of `part_rows`, for ordered sets alone. What it shows is the
-//! entries of its tree, the rows by rising key, in 8 slots (`IsShown` of `specs/Served.antt`).
+//! The one contract: `OrderRows` implements the trait `Rows` of `part_rows`, for ordered sets only. What it shows is
+//! the entries of its tree, i.e. the rows in ascending key order, and 8 slots (`IsShown` of `specs/Served.antt`).
 //!
 //! - `rows`: the type. It hands each operation to a function over the tree.
 //! - `tree`: what is done with the row of a key in the tree.
-//! - `looking`: what a visit looks at, and the order of a walk.
+//! - `looking`: what a visit looks at, and walk order.
 //! - `laws`: parts may be sent to other threads (`proofs/SendLemmas.antt`).
 #![tactic(auto)]
 
@@ -18,5 +18,5 @@ pub use laws::order_parts_may_be_sent;
 use part_engine::StoredPart;
 pub use rows::OrderRows;
 
-/// A part of an ordered set, whose rows stand in a tree by their keys.
+/// A part of an ordered set, whose rows are in a tree in key order.
 pub type OrderPart<A> = StoredPart<OrderRows<A>, A>;

@@ -1,4 +1,4 @@
-//! What a visit looks at, and the order of a walk.
+//! What a visit looks at, and walk order.
 ghost use Rattle.std.specs.Prelude.{ℕ, ◌≡◌, ◌++◌, IfOk, IsTrue, filter, flat_map, take};
 ghost use Rattle.std.specs.List.{IsDistinct};
 ghost use Rattle.std.specs.Map.{keys_of};
@@ -8,7 +8,7 @@ ghost use Rattle.part_core.specs.declared.kind.TableKind.TheVariants.{OrderedSet
 ghost use Rattle.part_core.specs.declared.settings.Settings.{Settings};
 ghost use Rattle.part_core.specs.Ops.{scope_of};
 ghost use Rattle.part_core.specs.Replies.{first_live};
-ghost use Rattle.part_core.specs.Visits.{most_rows, rows_behind};
+ghost use Rattle.part_core.specs.Visits.{most_rows, following_rows};
 ghost use Rattle.part_rows.specs.Looks.{is_placed, looked_at};
 
 use crate::tree::Tree;
@@ -19,17 +19,17 @@ use std::collections::btree_map::Range;
 use std::ops::Bound;
 use term_core::Term;
 
-/// The most rows that a visit looks at.
+/// The greatest number of rows that a visit looks at.
 const MOST_ROWS: usize = 64;
 
-/// The rows behind a key.
-fn rows_behind<'r, A: Allocator>(tree: &'r Tree<A>, key: &Term<A>) -> Range<'r, Term<A>, Held<A>>
-    ensures { result ≡ rows_behind key.now tree.now.entries }
+/// Returns the rows after a key, in ascending key order.
+fn following_rows<'r, A: Allocator>(tree: &'r Tree<A>, key: &Term<A>) -> Range<'r, Term<A>, Held<A>>
+    ensures { result ≡ following_rows key.now tree.now.entries }
 {
     tree.range((Bound::Excluded(key), Bound::Unbounded))
 }
 
-/// Puts the first rows of some behind others, 64 at most.
+/// Appends the first rows of `ahead` to `into`, at most 64. Fails if an allocation fails.
 fn look_ahead<'r, A: Allocator>(
     ahead: Range<'r, Term<A>, Held<A>>,
     into: &mut Vec<SeenRow<'r, A>, A>,
@@ -43,7 +43,7 @@ fn look_ahead<'r, A: Allocator>(
     Ok(())
 }
 
-/// Puts the row of a key behind others, where it has one.
+/// Appends the row of a key to `into`, if it has one. Fails if an allocation fails.
 fn look_at<'r, A: Allocator>(
     tree: &'r Tree<A>,
     key: &Term<A>,
@@ -58,7 +58,7 @@ fn look_at<'r, A: Allocator>(
     Ok(())
 }
 
-/// Puts the rows that a visit may look at behind others. There are none at a class.
+/// Appends the rows that a visit may look at to `into`. A cursor at a class has none. Fails if an allocation fails.
 pub(crate) fn look<'r, A: Allocator>(
     tree: &'r Tree<A>,
     scope: &Scope<'_, A>,
@@ -72,13 +72,13 @@ pub(crate) fn look<'r, A: Allocator>(
         Scope::Begin => look_ahead(tree.range(..), into),
         Scope::After(cursor) => match cursor {
             Cursor::Class { .. } => Ok(()),
-            Cursor::Behind(key) => look_ahead(rows_behind(tree, key), into),
+            Cursor::Behind(key) => look_ahead(following_rows(tree, key), into),
         },
         Scope::Named(key) => look_at(tree, key, into),
     }
 }
 
-/// The first key that has an object.
+/// Returns the first key that has an object, or `None`.
 pub(crate) fn first_key<A: Allocator>(tree: &Tree<A>) -> Option<&Term<A>>
     ensures { option_copied result ≡ first_live tree.now.entries }
 {
@@ -90,11 +90,14 @@ pub(crate) fn first_key<A: Allocator>(tree: &Tree<A>) -> Option<&Term<A>>
     None
 }
 
-/// The first key behind one that has an object.
-pub(crate) fn key_behind<'r, A: Allocator>(tree: &'r Tree<A>, key: &Term<A>) -> Option<&'r Term<A>>
-    ensures { option_copied result ≡ first_live (rows_behind key.now tree.now.entries) }
+/// Returns the first key after another that has an object, or `None`.
+pub(crate) fn following_key<'r, A: Allocator>(
+    tree: &'r Tree<A>,
+    key: &Term<A>,
+) -> Option<&'r Term<A>>
+    ensures { option_copied result ≡ first_live (following_rows key.now tree.now.entries) }
 {
-    for (next, held) in rows_behind(tree, key) {
+    for (next, held) in following_rows(tree, key) {
         if !held.is_empty() {
             return Some(next);
         }
@@ -102,7 +105,7 @@ pub(crate) fn key_behind<'r, A: Allocator>(tree: &'r Tree<A>, key: &Term<A>) -> 
     None
 }
 
-/// Puts copies of all objects behind others, by rising key.
+/// Appends copies of all objects to `into`, in ascending key order. Fails if an allocation fails.
 pub(crate) fn gather<A: Allocator + Copy>(
     tree: &Tree<A>,
     into: &mut Vec<Term<A>, A>,

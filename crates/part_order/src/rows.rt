@@ -1,5 +1,5 @@
 //! Rows in a tree.
-use crate::looking::{first_key, gather, key_behind, look};
+use crate::looking::{first_key, following_key, gather, look};
 use crate::tree::{Tree, goes, keep_live, put_back, put_down, put_over, swap_held};
 use part_core::{FIRST_SLOTS, Held, Scope, Settings, TableKind};
 use part_engine::key_of;
@@ -8,7 +8,7 @@ use std::alloc::{AllocError, Allocator, Global};
 use std::marker::Model;
 use term_core::Term;
 
-/// Rows of an ordered set, which stand in a tree by their keys.
+/// Rows of an ordered set, in a tree in key order.
 #[derive(Drop)]
 pub struct OrderRows<A: Allocator = Global> {
     tree: Tree<A>,
@@ -40,7 +40,7 @@ impl<A: Allocator> OrderRows<A> {
     ghost use Rattle.part_core.specs.Settings.{is_object, key_of};
     ghost use Rattle.part_rows.specs.Puts.{is_put, put_at};
 
-    /// What is held of a key and `held` change places, where the key has a row, and the answer says whether it has.
+    /// Exchanges the objects of a key with `held` if the key has a row, and returns whether it has.
     fn swap(&mut self, key: &Term<A>, held: &mut Held<A>) -> bool
         ensures there { result ≡ has_row self.old key.now }
         ensures held { held.new ≡ (if result then objects_at self.old key.now else held.old) }
@@ -49,7 +49,7 @@ impl<A: Allocator> OrderRows<A> {
         swap_held(&mut self.tree, key, held)
     }
 
-    /// Takes the row of a key out, where it has one, and says whether it had. What was held of it is in `held` then.
+    /// Removes the row of a key if it has one, and returns whether it had. Its objects are in `held` then.
     fn take_row(&mut self, key: &Term<A>, held: &mut Held<A>) -> bool
         ensures there { result ≡ has_row self.old key.now }
         ensures held { held.new ≡ (if result then objects_at self.old key.now else held.old) }
@@ -62,7 +62,7 @@ impl<A: Allocator> OrderRows<A> {
         true
     }
 
-    /// Whether what is held of a key stays where an object is put in: it has one, and that isn't replaced.
+    /// Returns whether the key keeps its object when another is inserted: it has one, and `replaces` is `false`.
     fn stays(&self, key: &Term<A>, replaces: bool) -> bool
         ensures { result ≡ not (is_put (put_at replaces (lookup (is_same key.now) self.now))) }
     {
@@ -72,8 +72,8 @@ impl<A: Allocator> OrderRows<A> {
         !Put::over(self.tree.get(key), replaces).is_done()
     }
 
-    /// Puts an object in at a key, in the place of what is held of that, and says what became of the key's row. For
-    /// want of memory the object goes back.
+    /// Inserts an object at a key, instead of the objects that are held at it, and returns what became of the key's
+    /// row. If an allocation fails, the object is handed back, and nothing is changed.
     fn put_row(&mut self, key: Term<A>, object: &mut Option<Term<A>>) -> Result<Put, AllocError>
     where
         A: Copy,
@@ -97,8 +97,8 @@ impl<A: Allocator> OrderRows<A> {
         }
     }
 
-    /// Puts an object in, unless its key has one that it doesn't replace, and says what became of its key's row. It is
-    /// taken either way, but for want of memory; what is no object is refused.
+    /// Inserts an object, unless its key has one and `replaces` is `false`; the object is taken in either case. Returns
+    /// what became of its key's row. Fails, with nothing changed, if the term is no object or an allocation fails.
     fn put_object(
         &mut self,
         settings: Settings,
@@ -218,8 +218,8 @@ impl<A: Allocator + Copy> Rows<A> for OrderRows<A> {
         first_key(&self.tree)
     }
 
-    fn key_behind(&self, _settings: Settings, _base: u32, key: &Term<A>) -> Option<&Term<A>> {
-        key_behind(&self.tree, key)
+    fn following_key(&self, _settings: Settings, _base: u32, key: &Term<A>) -> Option<&Term<A>> {
+        following_key(&self.tree, key)
     }
 
     fn gather(

@@ -13,38 +13,39 @@ use std::collections::BTreeMap;
 use std::mem;
 use term_core::Term;
 
-/// Rows by their keys.
+/// A tree of rows: the objects held at each key.
 pub(crate) type Tree<A> = BTreeMap<Term<A>, Held<A>, A>;
 
-/// Puts what is held of a key in the place of what was.
+/// Replaces the objects at `place` by `held`.
 pub(crate) fn put_down<A: Allocator>(place: &mut Held<A>, held: Held<A>)
     ensures { place.new ≡ held }
 {
     drop(mem::replace(place, held));
 }
 
-/// What became of the row of a key at which an object took the place of what was held, none where it had no row.
+/// Returns what became of the row of a key at which an object replaced the objects `replaced`, or `None` if it had no
+/// row.
 pub(crate) fn put_over<A: Allocator>(replaced: Option<Held<A>>) -> Put
     ensures { result ≡ put_at true replaced }
 {
     Put::over(replaced.as_ref(), true)
 }
 
-/// Puts the object of a row that was made and not put in back where it was taken from.
+/// Puts the object of a row that was made but not inserted back into the option from which it was taken.
 pub(crate) fn put_back<A: Allocator>(place: &mut Option<Term<A>>, row: (Term<A>, Held<A>))
     ensures { (object : Datum) → row.1 ≡ object ∷ [] → place.new ≡ Some object }
 {
     drop(mem::replace(place, row.1.into_object()));
 }
 
-/// Whether a row goes whose objects become what is held.
+/// Returns whether a row is removed whose objects become `held`: it would be dead, and `keeps` is `false`.
 pub(crate) fn goes<A: Allocator>(held: &Held<A>, keeps: bool) -> bool
     ensures { result ≡ (not keeps && is_empty held.now) }
 {
     !keeps && held.is_empty()
 }
 
-/// What is held of a key and `held` change places, where the key has a row, and the answer says whether it has.
+/// Exchanges the objects of a key with `held` if the key has a row, and returns whether it has.
 pub(crate) fn swap_held<A: Allocator>(tree: &mut Tree<A>, key: &Term<A>, held: &mut Held<A>) -> bool
     ensures there { result ≡ has_row tree.old.entries key.now }
     ensures held { held.new ≡ (if result then objects_at tree.old.entries key.now else held.old) }
@@ -59,7 +60,7 @@ pub(crate) fn swap_held<A: Allocator>(tree: &mut Tree<A>, key: &Term<A>, held: &
     }
 }
 
-/// Lets dead rows go.
+/// Removes the rows without objects.
 // The keys are of any type: the borrow checker covers no call with a closure over two types that name the allocator.
 pub(crate) fn keep_live<K: Ord + Drop, A: Allocator>(tree: &mut BTreeMap<K, Held<A>, A>)
     ensures { tree.new.entries ≡ filter (λ r. not (is_empty r.1)) tree.old.entries }

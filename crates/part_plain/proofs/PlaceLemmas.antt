@@ -1,4 +1,4 @@
--- What the place of a key's row says of look-ups and of writing.
+-- What the place of a key's row means for look-ups and for writing.
 use Rattle.std.proofs.Common.{◌≡◌, ℕ, ◌<◌, ◌+◌, List, [], ◌∷◌, ◌++◌, refl, ap, sym, subst, ◌∙◌, arith, length, length-append, get_or, set, take, drop, append_assoc}
 use Rattle.std.specs.Prelude.{true, false, Option, Some, filter, is_some, unwrap_or}
 use Rattle.std.specs.List.{IsDistinct}
@@ -19,26 +19,26 @@ use Rattle.part_core.specs.Settings.{class_at, is_ordered}
 use Rattle.part_core.specs.Visits.{in_class, walk_order}
 use Rattle.part_core.specs.Replies.{rows_past}
 use Rattle.part_engine.specs.Sets.{rows_from}
-use Rattle.part_engine.proofs.WalkLemmas.{walk_behind as behind_in_walk}
+use Rattle.part_engine.proofs.WalkLemmas.{walk_after as behind_in_walk}
 
--- rows without the key hide none behind them
+-- a look-up passes rows without the key
 pub lookup_past : (k : Datum) (before rest : List Row) → has_row before k ≡ false → lookup (is_same k) (before ++ rest) ≡ lookup (is_same k) rest
 lookup_past k [] rest none = refl
 lookup_past k (r ∷ rows) rest none =
     by_test (is_same k r.0) _ (λ holds. absurd (true≢false (rw holds at none))) (λ fails. rw fails (lookup_past k rows rest (rw fails at none)))
 
--- a row of another key, behind rows without the key
+-- rows without the key and one more row of another key don't have the key
 pub none_more : (k : Datum) (before : List Row) (r : Row) → has_row before k ≡ false → is_same k r.0 ≡ false → has_row (before ++ r ∷ []) k ≡ false
 none_more k before r none other =
     ap is_some (lookup_past k before (r ∷ []) none) ∙ rw other refl
 
--- where keys are apart, those behind the row of a key are others
+-- if keys are distinct, no row after that of a key has it
 pub none_behind : (k : Datum) (before : List Row) (row : Row) (after : List Row) → IsDistinct is_same (keys_of (before ++ row ∷ after)) → is_same k row.0 ≡ true → has_row after k ≡ false
 none_behind k [] row after d there = no_other k row after d there
 none_behind k (r ∷ before) row after d there =
     none_behind k before row after (IsDistinct-tail is_same r.0 (keys_of (before ++ row ∷ after)) d) there
 
--- where keys are apart, writing at a key changes its row alone
+-- if keys are distinct, writing at a key changes only its row
 pub written_at : (k : Datum) (f : List Datum → List Datum) (before : List Row) (row : Row) (after : List Row) → IsDistinct is_same (keys_of (before ++ row ∷ after)) → has_row before k ≡ false → is_same k row.0 ≡ true → rows_at_key k f (before ++ row ∷ after) ≡ before ++ (row.0, f row.1) ∷ after
 written_at k f [] row after d none there =
     rw there (ap (λ rs. (row.0, f row.1) ∷ rs) (unwritten k f after (no_other k row after d there)))
@@ -46,7 +46,7 @@ written_at k f (r ∷ before) row after d none there =
     by_test (is_same k r.0) _ (λ holds. absurd (true≢false (rw holds at none)))
     (λ fails. rw fails (ap (λ rs. r ∷ rs) (written_at k f before row after (IsDistinct-tail is_same r.0 (keys_of (before ++ row ∷ after)) d) (rw fails at none) there)))
 
--- the row at a place, and where it ends the search
+-- the row at a place at which a search ends is the first of its key
 pub place_here : (k : Datum) (rows : List Row) (place : ℕ) (row : Row) → place < length rows → row ≡ get_or rows place row → has_row (take place rows) k ≡ false → is_same k row.0 ≡ true → IsPlace k rows place
 place_here k rows place row within is none there = record {
   before = take place rows;
@@ -62,13 +62,13 @@ pub place_row : {k : Datum} {rows : List Row} {place : ℕ} (d : Row) (p : IsPla
 place_row {k} {rows} {place} d p =
     ap (λ rs. get_or rs place d) p.whole ∙ get_or_at p.before p.row p.after d place p.count
 
--- the rows behind a place
+-- the rows after a place
 pub rest_at : (before : List Row) (row : Row) (after : List Row) (place : ℕ) → length before ≡ place → drop (place + 1) (before ++ row ∷ after) ≡ after
 rest_at before row after place count =
     ap (drop (place + 1)) (sym (append_assoc before (row ∷ []) after))
     ∙ drop_at (before ++ row ∷ []) after (place + 1) (omega (arith, length-append before (row ∷ []), count))
 
--- what is held of the key is what its row holds
+-- a look-up finds the objects of the row at the key's place
 pub place_held : {k : Datum} {rows : List Row} {place : ℕ} (d : Row) → IsPlace k rows place → Some (get_or rows place d).1 ≡ lookup (is_same k) rows
 place_held {k} {rows} {place} d p =
     let here : is_same k p.row.0 ≡ true = p.there in
@@ -83,7 +83,7 @@ place_objects {k} {rows} {place} d p =
 pub place_there : {k : Datum} {rows : List Row} {place : ℕ} → IsPlace k rows place → has_row rows k ≡ true
 place_there {k} {rows} {place} p = ap is_some (sym (place_held (k, []) p))
 
--- a row in the place of that of the key
+-- replacing the row at the key's place
 pub place_set : {k : Datum} {rows : List Row} {place : ℕ} (new : Row) (p : IsPlace k rows place) → set rows place new ≡ p.before ++ new ∷ p.after
 place_set {k} {rows} {place} new p =
     ap (λ rs. set rs place new) p.whole ∙ set_at p.before p.row p.after new place p.count
@@ -96,7 +96,7 @@ place_written {k} {rows} {place} f d p apart =
     ∙ sym (written_at k f p.before p.row p.after (subst (λ rs. IsDistinct is_same (keys_of rs)) p.whole apart) p.first p.there)
     ∙ ap (rows_at_key k f) (sym p.whole)
 
--- where keys are apart, the row of a key is the only one
+-- if keys are distinct, the row of a key is the only one
 pub alone : {k : Datum} {rows : List Row} {place : ℕ} (row : Row) → IsPlace k rows place → row ≡ get_or rows place row → IsDistinct is_same (keys_of rows) → row ∷ [] ≡ filter (λ r. is_same k r.0) rows
 alone {k} {rows} {place} row p at apart =
     let here : is_same k p.row.0 ≡ true = p.there in
@@ -108,8 +108,8 @@ alone {k} {rows} {place} row p at apart =
     ∙ ap (λ rs. rs ++ filter (λ r. is_same k r.0) (p.row ∷ p.after)) (none_there k p.before p.first)
     ∙ rest)
 
--- the rows behind the place of a key's row are those of its class behind there, and those of the classes above
-pub walk_behind : (o : Settings) (base : ℕ) {k : Datum} {rows : List Row} {place : ℕ} → is_ordered o.kind ≡ false → class_at o base k < base → IsPlace k rows place → rows_past k (walk_order o base rows) ≡ in_class o base (class_at o base k) (drop (place + 1) rows) ++ rows_from o base (class_at o base k + 1) rows
-walk_behind o base {k} {rows} {place} kind below p =
+-- in walk order, the rows after that of a key are those of its class after its place, and those of the classes above
+pub walk_after : (o : Settings) (base : ℕ) {k : Datum} {rows : List Row} {place : ℕ} → is_ordered o.kind ≡ false → class_at o base k < base → IsPlace k rows place → rows_past k (walk_order o base rows) ≡ in_class o base (class_at o base k) (drop (place + 1) rows) ++ rows_from o base (class_at o base k + 1) rows
+walk_after o base {k} {rows} {place} kind below p =
     behind_in_walk o base k rows p.before p.row p.after kind below p.whole p.first p.there
     ∙ ap (λ rs. in_class o base (class_at o base k) rs ++ rows_from o base (class_at o base k + 1) rows) (sym (ap (drop (place + 1)) p.whole ∙ rest_at p.before p.row p.after place p.count))

@@ -1,4 +1,4 @@
--- An object put at its key's place in a list of rows.
+-- An object inserted at its key's place in a list of rows.
 use Rattle.std.proofs.Common.{◌≡◌, ℕ, ◌<◌, ◌≤◌, ◌+◌, List, [], ◌∷◌, ◌++◌, refl, ap, sym, subst, ◌∙◌, arith, length, length-append, set, get_or}
 use Rattle.std.specs.Prelude.{Bool, true, false, not, if◌then◌else◌, Option, Some, None, is_some, unwrap_or}
 use Rattle.std.specs.List.{IsDistinct}
@@ -20,7 +20,7 @@ use Rattle.part_plain.proofs.PlaceLemmas.{lookup_past, place_objects, place_row,
 
 -- ---- a row for a key
 
--- the row that was added stands behind the others
+-- a row that was appended is at the last place
 pub place_behind : (k : Datum) (rows : List Row) (place : ℕ) → has_row rows k ≡ false → length rows ≡ place → IsPlace k (rows ++ (k, []) ∷ []) place
 place_behind k rows place none count = record {
   before = rows;
@@ -35,7 +35,7 @@ place_behind k rows place none count = record {
 pub key_there : (k : Datum) (rows : List Row) → has_row rows k ≡ true → rows ≡ with_key k rows
 key_there k rows there = rw there refl
 
--- a row that was added holds nothing
+-- a row that was appended has no objects
 objects_kept : (k : Datum) (rows : List Row) → objects_at (with_key k rows) k ≡ objects_at rows k
 objects_kept k rows =
     by_test (has_row rows k) _
@@ -51,14 +51,14 @@ distinct_kept k rows apart =
 
 -- ---- the object
 
--- an object that is put in is put in among those of its key's row
+-- inserting an object changes the objects of its key's row
 put_at_key : (o : Settings) (t : Datum) (rows : List Row) → is_ordered o.kind ≡ false → IsDistinct is_same (keys_of rows) → rows_at_key (key_of o t) (λ os. objects_with o.kind os t) (with_key (key_of o t) rows) ≡ with_object o t rows
 put_at_key o t rows plain apart =
     by_test (has_row rows (key_of o t)) _
     (λ there. rw there refl)
     (λ none. rw (none, plain) (written_at (key_of o t) (λ os. objects_with o.kind os t) rows (key_of o t, []) [] (keys_new_distinct (key_of o t) [] rows apart none) none (same_from (key_of o t) (key_of o t) refl)))
 
--- a row into which it was put at its key's place
+-- the rows after an object is inserted into the row at its key's place
 pub put_there : (o : Settings) (t : Datum) (rows found : List Row) (place : ℕ) (row new : Row) → found ≡ with_key (key_of o t) rows → IsPlace (key_of o t) found place → row ≡ get_or found place row → new ≡ (row.0, objects_with o.kind row.1 t) → is_ordered o.kind ≡ false → IsDistinct is_same (keys_of rows) → set found place new ≡ with_object o t rows
 put_there o t rows found place row new is p at made plain apart =
     let distinct : IsDistinct is_same (keys_of found) = subst (λ rs. IsDistinct is_same (keys_of rs)) (sym is) (distinct_kept (key_of o t) rows apart) in
@@ -69,7 +69,7 @@ put_there o t rows found place row new is p at made plain apart =
 
 -- ---- what becomes of the row
 
--- the row at the place is live where the key has an object
+-- the row at the place is live if and only if the key has an object
 live_there : (k : Datum) (rows found : List Row) (place : ℕ) (row : Row) → found ≡ with_key k rows → IsPlace k found place → row ≡ get_or found place row → is_live row ≡ not (is_empty (objects_at rows k))
 live_there k rows found place row is p at =
     ap (λ (r : Row). is_live r) at
@@ -85,7 +85,7 @@ live_stays k rows found is live =
     false_not_true : false ≡ true → ⊥
     false_not_true e = true≢false (sym e)
 
--- what a look-up finds of a key that has a row, by the row at its place
+-- what a look-up finds at a key that has a row, given the row at its place
 found_there : (k : Datum) (rows found : List Row) (place : ℕ) (row : Row) → found ≡ with_key k rows → IsPlace k found place → row ≡ get_or found place row → has_row rows k ≡ true → lookup (is_same k) rows ≡ Some row.1
 found_there k rows found place row is p at there =
     of (lookup (is_same k) rows) there
@@ -95,7 +95,7 @@ found_there k rows found place row is p at there =
     of None h = cc
     of (Some os) h = refl
 
--- a row was added where the key had none
+-- a row is appended if and only if the key has none
 with_old : (k : Datum) (rows : List Row) → has_row rows k ≡ true → length (with_key k rows) ≡ length rows
 with_old k rows there = rw there refl
 
@@ -140,12 +140,12 @@ put_live k rows found place before row replaces is p at count none live =
     of_live replaces row.1 live
     ∙ ap (put_at replaces) (sym (found_there k rows found place row is p at (not_added k rows found before is count none)))
 
--- said of rows that were seen as a slice
+-- what became of the row, for rows that were seen as a slice
 pub became : (k : Datum) (rows found slice : List Row) (place before : ℕ) (replaces : Bool) (put : Put) → ((key : Datum) (old : List Row) → slice ≡ with_key key old → IsPlace key slice place → before ≡ length old → put ≡ put_at replaces (lookup (is_same key) old)) → slice ≡ found → found ≡ with_key k rows → IsPlace k found place → before ≡ length rows → put ≡ put_at replaces (lookup (is_same k) rows)
 became k rows found slice place before replaces put said seen is p count =
     said k rows (seen ∙ is) (subst (λ rs. IsPlace k rs place) (sym seen) p) count
 
--- a key whose object stays has a row
+-- a key whose object is kept has a row
 kept_some : (replaces : Bool) (found : Option (List Datum)) → is_put (put_at replaces found) ≡ false → is_some found ≡ true
 kept_some replaces None kept = cc
 kept_some replaces (Some os) kept = refl
@@ -154,7 +154,7 @@ pub kept_rows : (k : Datum) (rows found : List Row) (replaces : Bool) → found 
 kept_rows k rows found replaces is kept =
     is ∙ sym (key_there k rows (kept_some replaces (lookup (is_same k) rows) kept))
 
--- a live row that was written back as it was
+-- writing back a live row as it was leaves the rows as they were
 pub put_back : (k : Datum) (rows found : List Row) (place : ℕ) (row new : Row) → found ≡ with_key k rows → IsPlace k found place → row ≡ get_or found place row → new ≡ row → is_live row ≡ true → set found place new ≡ rows
 put_back k rows found place row new is p at same live =
     ap (set found place) (same ∙ at ∙ place_row row p)

@@ -1,5 +1,4 @@
--- A plain part may be sent to other threads: its rows where its allocator may be, the whole where its memory is the
--- heap's.
+-- A plain part may be sent to other threads: its rows if its allocator may be, and the whole if it uses the global allocator.
 use denote.RattleType.{RattleType}
 use denote.Param.Send.{IsSend, IsSync, Frees, sendable}
 use Rattle.std.proofs.CrossingOver.{crosses}

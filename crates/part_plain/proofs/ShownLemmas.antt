@@ -16,14 +16,14 @@ use Rattle.part_engine.proofs.SetLemmas.{plain_served, plain_slots}
 
 -- ---- slots
 
--- the slots of rows to which one was added are those of a set
+-- the number of slots after one row is added to a set is one that a set can have
 pub grown_base : (before now slots result : ℕ) → IsBase slots → result ≡ slots_after Set before now slots → IsBase result
 grown_base before now slots result is same =
     subst IsBase (sym same) (slots_grow Set before now slots is).0
 
--- ---- an object that is put in, or is not
+-- ---- an object that is inserted, or is not
 
--- rows to which an object was put show it
+-- rows into which an object was inserted show it
 pub shown_put : (o : Settings) (t : Datum) (rows new : List Row) (slots more : ℕ) (w : Shown) → IsShown o rows slots w → (is_ordered o.kind ≡ false → new ≡ with_object o t rows) → (length new ≤ length rows + 1 → more ≡ slots_after Set (length rows) (length new) slots) → IsShown o new more (shown_with o t w)
 shown_put o t rows new slots more w shown put grown = record {
   served = shown.served;
@@ -44,7 +44,7 @@ shown_put o t rows new slots more w shown put grown = record {
     few : length new ≤ length rows + 1
     few = subst (λ (rs : List Row). length rs ≤ length rows + 1) (sym is) (put_length o t rows plain)
 
--- rows that stay show what they showed
+-- rows that are unchanged show what they showed
 pub shown_left : (o : Settings) (rows new : List Row) (slots more : ℕ) (w : Shown) → IsShown o rows slots w → (is_ordered o.kind ≡ false → new ≡ rows) → (length new ≤ length rows + 1 → more ≡ slots_after Set (length rows) (length new) slots) → IsShown o new more w
 shown_left o rows new slots more w shown stay grown = record {
   served = shown.served;
@@ -58,20 +58,20 @@ shown_left o rows new slots more w shown stay grown = record {
     same : length new ≡ length rows
     same = ap length is
 
--- what is left where an object was put in or not
+-- what rows show after an insertion that may or may not have taken place
 pub shown_either : (o : Settings) (t : Datum) (rows new : List Row) (slots more : ℕ) (w : Shown) (b : Bool) → IsShown o rows slots w → (is_ordered o.kind ≡ false → new ≡ (if b then with_object o t rows else rows)) → (length new ≤ length rows + 1 → more ≡ slots_after Set (length rows) (length new) slots) → IsShown o new more (if b then shown_with o t w else w)
 shown_either o t rows new slots more w true shown put grown = shown_put o t rows new slots more w shown put grown
 shown_either o t rows new slots more w false shown put grown = shown_left o rows new slots more w shown put grown
 
--- the slots of rows that were seen as slices
+-- the number of slots of rows that were seen as slices
 pub slots_of : (before after rows new : List Row) (slots more : ℕ) → before ≡ rows → after ≡ new → (length after ≤ length before + 1 → more ≡ slots_after Set (length before) (length after) slots) → length new ≤ length rows + 1 → more ≡ slots_after Set (length rows) (length new) slots
 slots_of before after rows new slots more first last grown =
     subst (λ (rs : List Row). length new ≤ length rs + 1 → more ≡ slots_after Set (length rs) (length new) slots) first
     (subst (λ (rs : List Row). length rs ≤ length before + 1 → more ≡ slots_after Set (length before) (length rs) slots) last grown)
 
--- ---- what is held of a key exchanged
+-- ---- exchanging the objects of a key
 
--- rows of which one takes what it holds, or which have none of the key, show it
+-- what rows show after an exchange, whether or not they have the key
 pub shown_exchange : (o : Settings) (k : Datum) (os held : List Datum) (keeps there : Bool) (rows new : List Row) (slots : ℕ) (w : Shown) → IsShown o rows slots w → there ≡ has_row rows k → held ≡ (if there then objects_at rows k else os) → new ≡ rows_exchanged k os keeps rows → (there ≡ has_row w.rows k) × (held ≡ (if there then objects_at w.rows k else os)) × IsShown o new slots (shown_exchanged k os keeps w)
 shown_exchange o k os held keeps there rows new slots w shown has was is = (
   has ∙ ap (λ (rs : List Row). has_row rs k) (sym shown.rows),
@@ -83,7 +83,7 @@ shown_exchange o k os held keeps there rows new slots w shown has was is = (
   },
 )
 
--- so few are shown as there are
+-- rows show as many rows as they have
 pub shown_few : (o : Settings) (rows : List Row) (slots most : ℕ) (w : Shown) → IsShown o rows slots w → length rows < most → length w.rows < most
 shown_few o rows slots most w shown few =
     subst (λ (rs : List Row). length rs < most) (sym shown.rows) few

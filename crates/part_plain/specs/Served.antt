@@ -5,7 +5,7 @@ use Rattle.part_core.specs.Rows.{Row}
 use Rattle.part_rows.specs.Shown.{Shown}
 use Rattle.part_engine.specs.Sets.{serves}
 
--- these rows, in so many slots, are those of a table that is served
+-- these rows, with this number of slots, are those of a table that is served
 pub record IsShown (o : Settings) (list : List Row) (size : ℕ) (w : Shown) : Type 0 where
   pub served : IsTrue (serves o.kind)
   pub rows : w.rows ≡ list

@@ -1,4 +1,4 @@
-//! Rows whose objects are exchanged or let go.
+//! Exchanging the objects of rows, and removing dead rows.
 ghost use Rattle.std.specs.Prelude.{vec_len, ◌≡◌, ◌<◌, ◌∷◌, ◌++◌, if◌then◌else◌, filter, length, List};
 ghost use Rattle.std.specs.List.{IsDistinct};
 ghost use Rattle.std.specs.Map.{keys_of};
@@ -12,7 +12,7 @@ use part_engine::HashedRow;
 use std::alloc::Allocator;
 use term_core::Term;
 
-/// Lets the row at a place go if it is dead.
+/// Removes the row at a place if it is dead.
 fn settle<A: Allocator>(rows: &mut Vec<HashedRow<A>, A>, place: usize)
     requires { place < vec_len rows.old }
     ensures { (before after : List AnyRow) (row : AnyRow) → length before ≡ place
@@ -24,8 +24,8 @@ fn settle<A: Allocator>(rows: &mut Vec<HashedRow<A>, A>, place: usize)
     }
 }
 
-/// What is held of a key and `held` change places, where the key has a row; that goes, unless `keeps`, if it is dead
-/// then.
+/// Exchanges the objects of a key with `held` if the key has a row, and returns whether it has. If the row is dead
+/// then, it is removed, unless `keeps`.
 pub(crate) fn exchange<A: Allocator>(
     rows: &mut Vec<HashedRow<A>, A>,
     key: &Term<A>,
@@ -47,7 +47,7 @@ pub(crate) fn exchange<A: Allocator>(
     true
 }
 
-/// Lets all dead rows go.
+/// Removes all dead rows.
 pub(crate) fn keep_live<A: Allocator>(rows: &mut Vec<HashedRow<A>, A>)
     ensures { rows.new.items ≡ filter is_live rows.old.items }
 {

@@ -1,4 +1,4 @@
-//! The objects of all rows, in the order of a walk.
+//! Copying the objects of all rows, in walk order.
 ghost use Rattle.std.specs.Prelude.{◌≡◌, ◌<◌, ◌++◌, ◌==◌, if◌then◌else◌, flat_map, [], IfOk, IsFalse};
 ghost use Rattle.part_core.specs.Settings.{class_at, is_ordered};
 ghost use Rattle.part_core.specs.Visits.{in_class, walk_order};
@@ -8,7 +8,7 @@ use part_engine::HashedRow;
 use std::alloc::{AllocError, Allocator};
 use term_core::Term;
 
-/// Puts copies of a row's objects behind others, where its key is of a class.
+/// Appends copies of a row's objects to `into` if its key is in the class. Fails if an allocation fails.
 fn gather_row<A: Allocator + Copy>(
     row: &HashedRow<A>,
     settings: Settings,
@@ -27,7 +27,7 @@ fn gather_row<A: Allocator + Copy>(
     Ok(())
 }
 
-/// Puts copies of the objects of a class behind others.
+/// Appends copies of the objects of a class to `into`. Fails if an allocation fails.
 fn gather_class<A: Allocator + Copy>(
     rows: &[HashedRow<A>],
     settings: Settings,
@@ -46,7 +46,7 @@ fn gather_class<A: Allocator + Copy>(
     Ok(())
 }
 
-/// Puts copies of the objects of all classes behind others.
+/// Appends copies of the objects of all classes to `into`, class by class. Fails if an allocation fails.
 pub(crate) fn gather<A: Allocator + Copy>(
     rows: &[HashedRow<A>],
     settings: Settings,

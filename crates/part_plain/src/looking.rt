@@ -15,7 +15,7 @@ use part_rows::SeenRow;
 use std::alloc::{AllocError, Allocator};
 use term_core::Term;
 
-/// Puts the rows of a class behind others.
+/// Appends the rows of a class to `into`. Fails if an allocation fails.
 fn look_in<'r, A: Allocator>(
     rows: &'r [HashedRow<A>],
     settings: Settings,
@@ -35,7 +35,7 @@ fn look_in<'r, A: Allocator>(
     Ok(())
 }
 
-/// Puts the row of a key behind others.
+/// Appends the row of a key to `into`, if it has one. Fails if an allocation fails.
 fn look_at<'r, A: Allocator>(
     rows: &'r [HashedRow<A>],
     key: &Term<A>,
@@ -50,7 +50,7 @@ fn look_at<'r, A: Allocator>(
     Ok(())
 }
 
-/// Puts the rows that a visit looks at behind others.
+/// Appends the rows that a visit looks at to `into`. Fails if an allocation fails.
 pub(crate) fn look<'r, A: Allocator>(
     rows: &'r [HashedRow<A>],
     settings: Settings,

@@ -1,4 +1,4 @@
-//! Where the row of a key stands in a list of rows.
+//! Where the row of a key is in a list of rows.
 ghost use Rattle.std.specs.Prelude.{◌≡◌, MatchOption, IsFalse};
 ghost use Rattle.std.specs.Map.{lookup};
 ghost use Rattle.std.specs.Option.{option_copied};
@@ -12,7 +12,7 @@ use part_engine::HashedRow;
 use std::alloc::Allocator;
 use term_core::Term;
 
-/// The place of a key's row.
+/// Returns the position of a key's row, or `None` if it has none.
 pub(crate) fn place_of<A: Allocator>(
     rows: &[HashedRow<A>],
     key: &Term<A>,
@@ -30,7 +30,7 @@ pub(crate) fn place_of<A: Allocator>(
     None
 }
 
-/// What is held of a key, none where it has no row.
+/// Returns the objects held at a key, or `None` if it has no row.
 pub(crate) fn held_of<'r, A: Allocator>(
     rows: &'r [HashedRow<A>],
     key: &Term<A>,

@@ -1,4 +1,4 @@
-//! Objects that are put in.
+//! Inserting objects.
 ghost use Rattle.std.specs.Prelude.{vec_len, ◌≡◌, ◌<◌, None, if◌then◌else◌, length, unwrap_or, IsTrue, IsFalse, IfOk, IsErrOf, List, OnOk, OnErr};
 ghost use Rattle.std.specs.List.{IsDistinct};
 ghost use Rattle.std.specs.Map.{keys_of, lookup};
@@ -18,7 +18,8 @@ use part_rows::{Put, PutFault};
 use std::alloc::{AllocError, Allocator};
 use term_core::Term;
 
-/// The place of a key's row, which is added behind the others, dead, where there is none.
+/// Returns the position of a key's row. If it has none, appends a dead one. Fails, with nothing changed, if an
+/// allocation fails.
 fn place_for<A: Allocator + Copy>(
     rows: &mut Vec<HashedRow<A>, A>,
     key: &Term<A>,
@@ -39,7 +40,8 @@ fn place_for<A: Allocator + Copy>(
     }
 }
 
-/// The place of the row of an object's key. What is no object is refused.
+/// Returns the position of the row of an object's key. If the key has none, appends a dead one. Fails, with nothing
+/// changed, if the term is no object or an allocation fails.
 fn place_of_object<A: Allocator + Copy>(
     settings: Settings,
     rows: &mut Vec<HashedRow<A>, A>,
@@ -62,7 +64,8 @@ fn place_of_object<A: Allocator + Copy>(
     Ok(place)
 }
 
-/// What becomes of the row of a key at its place, where there were so many rows before one was added for it.
+/// Returns what an insertion makes of the row of a key at its position, if there were `before` rows before one was
+/// appended for it.
 fn put_over<A: Allocator>(rows: &[HashedRow<A>], place: usize, before: usize, replaces: bool) -> Put
     requires { place < length rows.now }
     ensures { (key : Datum) (old : List AnyRow) → rows.now ≡ with_key key old → IsPlace key rows.now place
@@ -77,8 +80,9 @@ fn put_over<A: Allocator>(rows: &[HashedRow<A>], place: usize, before: usize, re
     if replaces { Put::Done } else { Put::Kept }
 }
 
-/// Puts an object in, as the kind of table has it: in any case if it `replaces`, else if its key has none. Says what
-/// became of its key's row; what is no object is refused.
+/// Inserts an object as the kind of table requires: in any case if it `replaces`, else if its key has none. Returns
+/// what became of its key's row; the object is taken in either case. Fails, with nothing changed, if the term is no
+/// object or an allocation fails.
 pub(crate) fn put<A: Allocator + Copy>(
     settings: Settings,
     rows: &mut Vec<HashedRow<A>, A>,

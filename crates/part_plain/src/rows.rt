@@ -16,8 +16,8 @@ use part_rows::{Place, Put, PutFault, Rows, SeenRow};
 use std::alloc::{AllocError, Allocator, Global};
 use term_core::Term;
 
-/// The rows of a table that isn't walked by key in one list, as they were made: each operation looks through them for
-/// its key, by hashes.
+/// The rows of a table that isn't walked in key order, in one list in the order of their creation. Each operation
+/// searches the list for its key, comparing hashes first.
 #[derive(Drop)]
 pub struct PlainRows<A: Allocator = Global> {
     rows: Vec<HashedRow<A>, A>,
@@ -25,7 +25,7 @@ pub struct PlainRows<A: Allocator = Global> {
     ghost is_base: { IsBase slots },
 }
 
-/// The slots of rows that were so many before one was added at most.
+/// Returns the number of slots of rows that were `before` rows before at most one was added.
 fn slots_after<A: Allocator>(rows: &[HashedRow<A>], before: usize, slots: u32) -> u32
     requires { IsBase slots }
     ensures base { IsBase result }
@@ -129,7 +129,7 @@ impl<A: Allocator + Copy> Rows<A> for PlainRows<A> {
         first_live(self.rows.as_slice(), settings, u64::from(base))
     }
 
-    fn key_behind(&self, settings: Settings, base: u32, key: &Term<A>) -> Option<&Term<A>> {
+    fn following_key(&self, settings: Settings, base: u32, key: &Term<A>) -> Option<&Term<A>> {
         live_past(self.rows.as_slice(), settings, u64::from(base), key)
     }
 

@@ -1,4 +1,4 @@
-//! The order of a walk: class by class, in each as the rows were made.
+//! Walk order: class by class, in each class in the order in which rows were created.
 ghost use Rattle.std.specs.Prelude.{◌≡◌, ◌<◌, ◌+◌, ◌++◌, drop, length, IsTrue, IsFalse};
 ghost use Rattle.std.specs.Option.{option_copied};
 ghost use Rattle.part_core.specs.Replies.{first_live, rows_past};
@@ -13,7 +13,7 @@ use part_engine::{HashedRow, class_of};
 use std::alloc::Allocator;
 use term_core::Term;
 
-/// The key of the first live row of a class.
+/// Returns the key of the first live row of a class, or `None`.
 fn live_in<A: Allocator>(
     rows: &[HashedRow<A>],
     settings: Settings,
@@ -32,7 +32,7 @@ fn live_in<A: Allocator>(
     None
 }
 
-/// The key of the first live row of the classes from one on.
+/// Returns the key of the first live row of the classes from `first` on, or `None`.
 fn live_from<A: Allocator>(
     rows: &[HashedRow<A>],
     settings: Settings,
@@ -51,7 +51,7 @@ fn live_from<A: Allocator>(
     None
 }
 
-/// The key of the first live row of all classes.
+/// Returns the key of the first live row of all classes, in walk order, or `None`.
 pub(crate) fn first_live<A: Allocator>(
     rows: &[HashedRow<A>],
     settings: Settings,
@@ -65,8 +65,8 @@ pub(crate) fn first_live<A: Allocator>(
     live_from(rows, settings, base, 0)
 }
 
-/// The key of the first live row behind a place of a class, in the order of a walk.
-fn live_behind<A: Allocator>(
+/// Returns the key of the first live row after a position of a class, in walk order, or `None`.
+fn live_after<A: Allocator>(
     rows: &[HashedRow<A>],
     settings: Settings,
     base: u64,
@@ -86,7 +86,7 @@ fn live_behind<A: Allocator>(
     }
 }
 
-/// The key of the first live row behind that of a key.
+/// Returns the key of the first live row after that of a key, in walk order, or `None`. The key must have a row.
 pub(crate) fn live_past<'r, A: Allocator>(
     rows: &'r [HashedRow<A>],
     settings: Settings,
@@ -100,7 +100,7 @@ pub(crate) fn live_past<'r, A: Allocator>(
 {
     let hash = key.key_hash();
     match place_of(rows, key, hash) {
-        Some(place) => live_behind(rows, settings, base, place, class_of(settings, base, hash)),
+        Some(place) => live_after(rows, settings, base, place, class_of(settings, base, hash)),
         None => None,
     }
 }

@@ -1,4 +1,4 @@
--- How many rows are dead, by what is written.
+-- How many rows are dead, depending on what is written.
 use Rattle.std.proofs.Common.{◌≡◌, ℕ, ◌+◌, ◌-◌, ◌≤◌, ◌<◌, List, [], ◌∷◌, ◌++◌, refl, ap, sym, subst, ◌∙◌, length, arith}
 use Rattle.std.specs.Prelude.{Bool, true, false, not, ◌||◌, ◌^◌, if◌then◌else◌, min, Option, Some, None, unwrap_or, option_map, is_some, filter}
 use Rattle.std.specs.BTreeMap.{insert_entry}
@@ -40,7 +40,7 @@ no_more n e = omega (arith, e)
 still_none : (n : ℕ) → n ≡ 0 → 0 + n ≡ 0
 still_none n e = omega (arith, e)
 
--- where none is dead, all stay
+-- if no row is dead, filtering for live rows keeps all
 none_dead : (rows : List Row) → dead_rows rows ≡ 0 → filter is_live rows ≡ rows
 none_dead [] none = refl
 none_dead (r ∷ rows) none =
@@ -48,7 +48,7 @@ none_dead (r ∷ rows) none =
     (λ dead. absurd (one_more (dead_rows rows) (sym none ∙ dead_cons r rows ∙ ap (λ b. (if b then 1 else 0) + dead_rows rows) dead)))
     (λ live. rw live (ap (λ rs. r ∷ rs) (none_dead rows (no_more (dead_rows rows) (sym none ∙ dead_cons r rows ∙ ap (λ b. (if b then 1 else 0) + dead_rows rows) live)))))
 
--- where live rows alone stay, none is dead
+-- after filtering for live rows, none is dead
 live_left : (rows : List Row) → dead_rows (filter is_live rows) ≡ 0
 live_left [] = refl
 live_left (r ∷ rows) =
@@ -59,18 +59,18 @@ live_left (r ∷ rows) =
     kept : is_empty r.1 ≡ false → filter is_live (r ∷ rows) ≡ r ∷ filter is_live rows
     kept live = rw live refl
 
--- rows of which none is dead are kept without those
+-- rows without dead ones show the list of live rows
 pub keeps_none : {R : Type 0} (shows : Settings → R → Shown → Type 0) (o : Settings) (rows : R) (dead : ℕ) (w : Shown) → dead ≡ 0 → Keeps shows o rows dead w → Keeps shows o rows dead (shown_live w)
 keeps_none shows o rows dead w none keeps = record {
   there = subst (λ (rs : List Row). shows o rows (record { rows = rs; slots = w.slots })) (sym (none_dead w.rows (sym keeps.count ∙ none))) keeps.there;
   count = none ∙ sym (live_left w.rows);
 }
 
--- so are those that were let go
+-- rows that show only live rows keep a count of 0 dead rows
 pub keeps_live : {R : Type 0} (shows : Settings → R → Shown → Type 0) (o : Settings) (rows : R) (w : Shown) → shows o rows (shown_live w) → Keeps shows o rows 0 (shown_live w)
 keeps_live shows o rows w there = record { there = there; count = sym (live_left w.rows) }
 
--- the dead are some of the rows
+-- there are at most as many dead rows as rows
 dead_few : (rows : List Row) → dead_rows rows ≤ length rows
 dead_few rows =
     omega (arith, count_by-le-length is_empty (values_of rows), length-map rows (λ (r : Row). r.1))
@@ -87,7 +87,7 @@ others_stay k [] none = refl
 others_stay k (r ∷ rows) none =
     by_test (is_same k r.0) _ (λ here. absurd (true≢false (rw here at none))) (λ other. rw other (ap (λ rs. r ∷ rs) (others_stay k rows (rw other at none))))
 
--- ---- the row of a key, whose objects become others
+-- ---- the row of a key, whose objects are replaced
 
 one_other : (a b n x y : ℕ) → x ≡ a + n → y ≡ b + n → x + b ≡ y + a
 one_other a b n x y first second = omega (arith, first, second)
@@ -105,7 +105,7 @@ at_key k f (r ∷ rows) apart there =
     (λ here. rw here (one_other (one_dead (f r.1)) (one_dead r.1) (dead_rows rows) _ _ (dead_cons (r.0, f r.1) (rows_at_key k f rows) ∙ ap (λ (rs : List Row). one_dead (f r.1) + dead_rows rs) (unwritten k f rows (no_other k r rows apart here))) (dead_cons r rows)))
     (λ other. rw other (further (one_dead r.1) (dead_rows (rows_at_key k f rows)) (dead_rows rows) (one_dead (objects_at rows k)) (one_dead (f (objects_at rows k))) _ _ (dead_cons r (rows_at_key k f rows)) (dead_cons r rows) (at_key k f rows (IsDistinct-tail is_same r.0 (keys_of rows) apart) (rw other at there))))
 
--- a row that goes without objects is counted no more, nor is one that has some
+-- the count after a row is removed: neither a dead row nor a live one counts any more
 gone : (k : Datum) (os : List Datum) (rows : List Row) → IsDistinct is_same (keys_of rows) → has_row rows k ≡ true → dead_rows (rows_exchanged k os false rows) + one_dead (objects_at rows k) ≡ dead_rows rows + 0
 gone k os [] apart there = absurd (true≢false (sym there))
 gone k os (r ∷ rows) apart there =
@@ -132,7 +132,7 @@ one_comes : (os : List Datum) (keeps : Bool) → (if keeps then one_dead os else
 one_comes os true = one_at_most os
 one_comes os false = omega arith
 
--- nothing is exchanged where the key has no row
+-- nothing is exchanged if the key has no row
 pub exchanged_none : (k : Datum) (os : List Datum) (keeps : Bool) (rows : List Row) → has_row rows k ≡ false → rows ≡ rows_exchanged k os keeps rows
 exchanged_none k os true rows none = sym (unwritten k (λ _. os) rows none)
 exchanged_none k os false rows none =
@@ -144,12 +144,12 @@ keeps_nowhere shows o now dead w k os keeps count none there = record {
   count = count ∙ ap dead_rows (exchanged_none k os keeps w.rows none);
 }
 
--- a count that can't overflow
+-- the count of dead rows can't overflow
 counted_anew : (dead coming going next now : ℕ) → now + going ≡ dead + coming → dead < 2 ^ 64 - 1 → coming ≤ 1 → next ≡ min (dead + coming) (2 ^ 64 - 1) - going → next ≡ now
 counted_anew dead coming going next now sum few one is =
     omega (arith, sum, few, one, is)
 
--- what is held of a key exchanged with its row
+-- the count after the objects of a key are exchanged
 pub keeps_exchanged : {R : Type 0} (shows : Settings → R → Shown → Type 0) (o : Settings) (now : R) (dead coming going next : ℕ) (w : Shown) (k : Datum) (os held : List Datum) (keeps : Bool) → AreSound o w → dead ≡ dead_rows w.rows → length w.rows < 2 ^ 64 - 1 → has_row w.rows k ≡ true → held ≡ objects_at w.rows k → coming ≡ (if keeps then one_dead os else 0) → going ≡ one_dead held → next ≡ min (dead + coming) (2 ^ 64 - 1) - going → shows o now (shown_exchanged k os keeps w) → Keeps shows o now next (shown_exchanged k os keeps w)
 keeps_exchanged shows o now dead coming going next w k os held keeps sound count few has was comes goes is there = record {
   there = there;
@@ -163,9 +163,9 @@ keeps_exchanged shows o now dead coming going next w k os held keeps sound count
         ∙ ap (λ n. n + (if keeps then one_dead os else 0)) (sym count)
         ∙ ap (λ n. dead + n) (sym comes)
 
--- ---- an object that is put in
+-- ---- an object that is inserted
 
--- it was put in where it replaces what is there, or where nothing is
+-- an object is inserted if it replaces what is there, or if nothing is there
 pub put_or_not : (replaces : Bool) (found : Option (List Datum)) → is_put (put_at replaces found) ≡ (replaces || is_empty (unwrap_or found []))
 put_or_not true None = refl
 put_or_not true (Some []) = refl
@@ -174,7 +174,7 @@ put_or_not false None = refl
 put_or_not false (Some []) = refl
 put_or_not false (Some (t ∷ os)) = refl
 
--- a row into which an object is put is live
+-- a row into which an object is inserted is live
 put_lives : (kind : TableKind) (os : List Datum) (t : Datum) → one_dead (objects_with kind os t) ≡ 0
 put_lives kind os t =
     ap (λ b. if b then 1 else 0) (not-true (is_empty (objects_with kind os t)) (with_live kind t os t))
@@ -182,13 +182,13 @@ put_lives kind os t =
 plus_none : (n m : ℕ) → m ≡ 0 → n + m ≡ n
 plus_none n m none = omega (arith, none)
 
--- a row that holds objects behind the others
-live_behind : (k : Datum) (os : List Datum) (rows : List Row) → one_dead os ≡ 0 → dead_rows (rows ++ (k, os) ∷ []) ≡ dead_rows rows
-live_behind k os [] live = dead_cons (k, os) [] ∙ ap (λ n. n + dead_rows []) live
-live_behind k os (r ∷ rows) live =
-    dead_cons r (rows ++ (k, os) ∷ []) ∙ ap (λ n. one_dead r.1 + n) (live_behind k os rows live) ∙ sym (dead_cons r rows)
+-- appending a row with objects doesn't change the number of dead rows
+live_after : (k : Datum) (os : List Datum) (rows : List Row) → one_dead os ≡ 0 → dead_rows (rows ++ (k, os) ∷ []) ≡ dead_rows rows
+live_after k os [] live = dead_cons (k, os) [] ∙ ap (λ n. n + dead_rows []) live
+live_after k os (r ∷ rows) live =
+    dead_cons r (rows ++ (k, os) ∷ []) ∙ ap (λ n. one_dead r.1 + n) (live_after k os rows live) ∙ sym (dead_cons r rows)
 
--- and one at its place
+-- inserting a row with objects at its place in key order doesn't change the number of dead rows
 live_among : (k : Datum) (os : List Datum) (rows : List Row) → IsStrictlySortedBy datum_cmp (keys_of rows) → None ≡ lookup (is_same k) rows → one_dead os ≡ 0 → dead_rows (insert_entry datum_cmp rows k os) ≡ dead_rows rows
 live_among k os rows rising none live =
     sym (plus_none (dead_rows (insert_entry datum_cmp rows k os)) 0 refl)
@@ -200,7 +200,7 @@ new_row : (o : Settings) (k : Datum) (os : List Datum) (rows : List Row) → Are
 new_row o k os rows are none live =
     by_test (is_ordered o.kind) _
     (λ ordered. rw ordered (live_among k os rows (are.rising ordered) none live))
-    (λ plain. rw plain (live_behind k os rows live))
+    (λ plain. rw plain (live_after k os rows live))
 
 with_new : (o : Settings) (t : Datum) (rows : List Row) → None ≡ lookup (is_same (key_of o t)) rows → with_object o t rows ≡ with_new_row o.kind (key_of o t, objects_with o.kind [] t) rows
 with_new o t rows none =
@@ -210,7 +210,7 @@ with_old : (o : Settings) (t : Datum) (rows : List Row) (os : List Datum) → So
 with_old o t rows os found =
     let there : has_row rows (key_of o t) ≡ true = ap is_some (sym found) in rw there refl
 
--- a row that was there is live
+-- an insertion into a row that exists makes it live
 old_row : (o : Settings) (t : Datum) (rows : List Row) (os : List Datum) → AreRows o rows → Some os ≡ lookup (is_same (key_of o t)) rows → dead_rows (with_object o t rows) + one_dead os ≡ dead_rows rows
 old_row o t rows os are found =
     let k : Datum = key_of o t in

@@ -24,7 +24,7 @@ deep nil = omega arith
 deep (cons head tail) = omega arith
 deep (binary bs) = omega arith
 
--- one more place
+-- what the rows at one more place add
 more_rows : (purpose : Purpose) (p : Program) (f : Place → Option Row) (places : List Place) (i : ℕ) (place default : Place) → i < length places → place ≡ get_or places i default → yield_of_rows purpose p (filter_map f (take (i + 1) places)) ≡ yield_of_rows purpose p (filter_map f (take i places)) ++ yield_of_rows purpose p (filter_map f (place ∷ []))
 more_rows purpose p f places i place default within is =
     ap (λ ps. yield_of_rows purpose p (filter_map f ps)) (take_more places i default within ∙ ap (λ q. take i places ++ q ∷ []) (sym is))
@@ -37,7 +37,7 @@ given_there purpose p f places i place default initial before after within is so
     ∙ append_assoc initial (yield_of_rows purpose p (filter_map f (take i places))) (yield_of_rows purpose p (filter_map f (place ∷ [])))
     ∙ ap (λ xs. initial ++ xs) (sym (more_rows purpose p f places i place default within is))
 
--- a total that is kept within what is counted
+-- a total that is limited to the greatest number that is counted
 capped : (sum more before after most whole : ℕ) → before ≡ min sum most → after ≡ min (before + more) most → whole ≡ sum + more → after ≡ min whole most
 capped sum more before after most whole a b c = omega (arith, a, b, c)
 

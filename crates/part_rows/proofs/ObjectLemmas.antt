@@ -11,24 +11,24 @@ use Rattle.part_core.specs.Visits.{is_true}
 one_more : (os : List Datum) (i : ℕ) (t : Datum) → i < length os → t ≡ get_or os i t → take (i + 1) os ≡ take i os ++ t ∷ []
 one_more os i t within is = take_more os i t within ∙ ap (λ u. take i os ++ u ∷ []) (sym is)
 
--- one more object that is answered
+-- what one more object adds to the answers
 pub given_next : (f : Datum → Option Datum) (os : List Datum) (i : ℕ) (t : Datum) (initial before after : List Datum) → i < length os → t ≡ get_or os i t → before ≡ initial ++ filter_map f (take i os) → after ≡ before ++ filter_map f (t ∷ []) → after ≡ initial ++ filter_map f (take (i + 1) os)
 given_next f os i t initial before after within is so_far more =
     more ∙ ap (λ xs. xs ++ filter_map f (t ∷ [])) so_far
     ∙ append_assoc initial (filter_map f (take i os)) (filter_map f (t ∷ []))
     ∙ ap (λ xs. initial ++ xs) (sym (ap (filter_map f) (one_more os i t within is) ∙ filter_map-append f (take i os) (t ∷ [])))
 
--- one more object that passes or doesn't
+-- what one more object adds to those that pass a test
 pub passed_next : (q : Datum → Bool) (os : List Datum) (i : ℕ) (t : Datum) → i < length os → t ≡ get_or os i t → filter q (take (i + 1) os) ≡ filter q (take i os) ++ filter q (t ∷ [])
 passed_next q os i t within is =
     ap (filter q) (one_more os i t within is) ∙ filter-append q (take i os) (t ∷ [])
 
--- no more pass than were looked at
+-- at most as many objects pass as were looked at
 pub count_within : (q : Datum → Bool) (os : List Datum) (i : ℕ) → i < length os → length (filter q (take i os)) ≤ i
 count_within q os i within =
     omega (arith, length-filter q (take i os), count_by-le-length q (take i os), length-take-le i os (omega (arith, within)))
 
--- one more that is counted
+-- what one more object adds to the count
 pub count_next : (p : Program) (os : List Datum) (i : ℕ) (t : Datum) (b : Bool) (before after : ℕ) → i < length os → t ≡ get_or os i t → b ≡ is_true p t → before ≡ length (filter (is_true p) (take i os)) → after ≡ before + (if b then 1 else 0) → after ≡ length (filter (is_true p) (take (i + 1) os))
 count_next p os i t b before after within is holds so_far more =
     let one : length (filter (is_true p) (t ∷ [])) ≡ (if b then 1 else 0) = of b holds in
@@ -39,7 +39,7 @@ count_next p os i t b before after within is holds so_far more =
     of true e = rw (← e) refl
     of false e = rw (← e) refl
 
--- a count that grows, or doesn't
+-- a count that grows by one, or doesn't grow, without overflow
 pub counted : (n more : ℕ) (b : Bool) → b ≡ true → more ≡ min (n + 1) (2 ^ 64 - 1) → n < 2 ^ 64 - 1 → more ≡ n + (if b then 1 else 0)
 counted n more true holds is few = omega (arith, is, few)
 counted n more false holds is few = cc

@@ -7,9 +7,9 @@ use Rattle.part_core.specs.Acts.{Scope}
 use Rattle.part_core.specs.Acts.Cursor.{Class, Behind}
 use Rattle.part_core.specs.Acts.Scope.{Begin, After, Named}
 use Rattle.part_core.specs.Rows.{Row}
-use Rattle.part_core.specs.Visits.{in_class, most_rows, rows_behind}
+use Rattle.part_core.specs.Visits.{in_class, most_rows, following_rows}
 
--- a place where a visit of such a table can look: in a set a class that is below its base, in an ordered set any key
+-- a visit of a table with these settings can look there: in a set at a class below its base, in an ordered set after any key
 abbrev pub is_placed : Settings → Scope → Bool
 is_placed o (After (Class base class)) = not (is_ordered o.kind) && nat_lt class base
 is_placed o (After (Behind k)) = is_ordered o.kind
@@ -19,6 +19,6 @@ is_placed o scope = true
 abbrev pub looked_at : Settings → ℕ → Scope → List Row → List Row
 looked_at o base (Named k) rows = filter (λ r. is_same k r.0) rows
 looked_at o base (After (Class other class)) rows = in_class o other class rows
-looked_at o base (After (Behind k)) rows = take most_rows (rows_behind k rows)
+looked_at o base (After (Behind k)) rows = take most_rows (following_rows k rows)
 looked_at o base Begin rows =
     if is_ordered o.kind then take most_rows rows else in_class o base 0 rows

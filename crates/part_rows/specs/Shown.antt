@@ -1,4 +1,4 @@
--- What the rows of a part show, and what writing makes of it.
+-- What the rows of a part show, and how writing changes it.
 use Rattle.std.specs.Prelude.{ℕ, Bool, not, ◌||◌, if◌then◌else◌, filter, length, List, [], All}
 use Rattle.term_core.specs.Datum.{Datum}
 use Rattle.term_operand.specs.Order.{is_same}
@@ -7,16 +7,16 @@ use Rattle.part_core.specs.Rows.{Row, PartState, first_slots, is_live, rows_at_k
 use Rattle.part_core.specs.After.{slots_after}
 use Rattle.part_core.specs.States.{AreRows, IsRow}
 
--- the rows, dead ones among them, and in how many slots they stand
+-- the rows, dead ones among them, and the number of their slots
 pub record Shown : Type 0 where
   pub rows : List Row
   pub slots : ℕ
 
--- rows when they are made
+-- what new rows show
 abbrev pub no_rows : Shown
 no_rows = record { rows = []; slots = first_slots }
 
--- the state of a part with such rows, by how often each session fixes it and by the base of walks that begin
+-- the state of a part with such rows, given the sessions' counts of fixes and the base of walks that begin
 abbrev pub state_of : Shown → List ℕ → ℕ → PartState
 state_of w fixes base = record { rows = w.rows; fixes = fixes; slots = w.slots; base = base }
 
@@ -25,12 +25,12 @@ pub record AreSound (o : Settings) (w : Shown) : Type 0 where
   pub rows : AreRows o w.rows
   pub each : All (IsRow o) w.rows
 
--- with an object put in: the slots of a set are doubled in the same step where there are too many rows for them
+-- with an object inserted; the slots of a set are doubled in the same step if there are too many rows for them
 abbrev pub shown_with : Settings → Datum → Shown → Shown
 shown_with o t w =
     record { rows = with_object o t w.rows; slots = slots_after o.kind (length w.rows) (length (with_object o t w.rows)) w.slots }
 
--- rows in which a key has these objects in the place of its own; where there are none, its row goes unless it is kept
+-- the rows with the objects of a key replaced by `os`; if `os` is empty, the row is removed, unless `keeps`
 abbrev pub rows_exchanged : Datum → List Datum → Bool → List Row → List Row
 rows_exchanged k os keeps rows =
     if keeps then rows_at_key k (λ _. os) rows
@@ -39,6 +39,6 @@ rows_exchanged k os keeps rows =
 abbrev pub shown_exchanged : Datum → List Datum → Bool → Shown → Shown
 shown_exchanged k os keeps w = record { rows = rows_exchanged k os keeps w.rows; slots = w.slots }
 
--- without dead rows
+-- what rows show without the dead ones
 abbrev pub shown_live : Shown → Shown
 shown_live w = record { rows = filter is_live w.rows; slots = w.slots }

@@ -1,4 +1,4 @@
-//! Dead rows, which are counted beside the rows.
+//! Writing to rows together with a count of the dead ones.
 ghost use Rattle.std.specs.Prelude.{◌≡◌, ◌||◌, None, IsTrue, IsFalse, IfOk, IsErrOf, OnOk, OnErr, if◌then◌else◌, unwrap_or};
 ghost use Rattle.term_core.specs.Datum.Datum.{nil};
 ghost use Rattle.part_core.specs.Settings.{is_object, key_of};
@@ -12,22 +12,24 @@ use part_core::{Held, Settings};
 use std::alloc::Allocator;
 use term_core::Term;
 
-/// How many dead rows a row is: one where nothing is held of its key.
+/// Returns how many dead rows a row with these objects counts for: 1 if it has none, else 0.
 fn dead_in<A: Allocator>(held: &Held<A>) -> usize
     ensures { result ≡ one_dead held.now }
 {
     usize::from(held.is_empty())
 }
 
-/// How many dead rows come where a key's row takes what is held: none where it goes without objects.
+/// Returns how many dead rows are added when a key's row takes these objects: none if a row without objects is removed,
+/// i.e. unless `keeps`.
 fn dead_coming<A: Allocator>(held: &Held<A>, keeps: bool) -> usize
     ensures { result ≡ (if keeps then one_dead held.now else 0) }
 {
     if keeps { dead_in(held) } else { 0 }
 }
 
-/// Puts an object in, unless its key has one and it doesn't replace that, and says whether it was put in. A dead row of
-/// its key is live then, and counted no more. What is no object is refused.
+/// Inserts an object, unless its key has one and `replaces` is `false`. Returns whether it was inserted. If its key had
+/// a dead row, that row is live now, and no longer counted in `dead`. The object is taken out of the option if it is
+/// inserted or its key has one. Fails, with nothing changed, if the term is no object or an allocation fails.
 pub fn put_counted<R: Rows<A>, A: Allocator>(
     rows: &mut R,
     dead: &mut usize,
@@ -52,8 +54,8 @@ pub fn put_counted<R: Rows<A>, A: Allocator>(
     Ok(put.is_done())
 }
 
-/// What is held of a key and `held` change places, where the key has a row, and the answer says whether it has. The row
-/// goes where none of its objects are left, unless `keeps`; it is counted as what it is then.
+/// Exchanges the objects of a key with `held` if the key has a row, and returns whether it has. The row is removed if
+/// no objects are left, unless `keeps`. The count of dead rows is updated.
 pub fn exchange_counted<R: Rows<A>, A: Allocator>(
     rows: &mut R,
     dead: &mut usize,

@@ -1,16 +1,16 @@
-//! What rows of a part keep, of whatever sort they are.
+//! What every sort of rows of a part guarantees.
 //!
-//! The one contract: rows show a list, each a key with its objects, and a number of slots (`specs/Shown.antt`); the
-//! trait `Rows` says what each of a dozen operations makes of that. Rows know nothing of sessions, fixes, histories,
-//! refusals and queries, nor do they count which of them are dead: all this stands in the part over them
+//! The one contract: rows show a list, each row a key with its objects, and a number of slots (`specs/Shown.antt`). The
+//! trait `Rows` says how each of a dozen operations changes what they show. Rows know nothing of sessions, fixes,
+//! histories, refusals and queries, nor do they count which of them are dead: all this is in the part over them
 //! (`part_engine`).
 //!
-//! - `rows`: the trait; `specs/Looks.antt` says which rows a visit may look at. `put`: what becomes of a row that an
-//!   object is put into, and why none is. `seen`: a row, as a visit sees it; `place`: where a row stands.
-//! - `objects`: what code answers on the objects of a key, in the order of time; `listed`: on those of rows that are
-//!   listed by their places.
-//! - `dead`, `settling`: what is written beside a count of the dead rows (`specs/Dead.antt`); these go once no session
-//!   fixes the part.
+//! - `rows`: the trait; `specs/Looks.antt` says which rows a visit may look at. `put`: what becomes of a row into which
+//!   an object is inserted, and why none is inserted. `seen`: a row, as a visit sees it; `place`: where a row is.
+//! - `objects`: the answers of code for the objects of a key, in the order of insertion; `listed`: for those of rows
+//!   that are listed by their places.
+//! - `dead`, `settling`: writing together with a count of the dead rows (`specs/Dead.antt`), which are removed once no
+//!   session fixes the part.
 #![tactic(auto)]
 
 mod dead;

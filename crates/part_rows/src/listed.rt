@@ -1,4 +1,4 @@
-//! What code answers on the objects of rows that are listed by their places.
+//! Answers of code for the objects of rows that are listed by their places.
 ghost use Rattle.std.specs.Prelude.{◌≡◌, ◌++◌, [], ◌∷◌, true, IfOk, IsOk, filter_map, length, min};
 ghost use Rattle.part_core.specs.Acts.Purpose.{Answers, Counts};
 ghost use Rattle.part_core.specs.Replies.{most_counted};
@@ -12,10 +12,10 @@ use machine::Machine;
 use std::alloc::{AllocError, Allocator};
 use term_core::Term;
 
-/// How many places a visit reads ahead of itself.
+/// How many places a visit reads ahead.
 const AHEAD: usize = 64;
 
-/// Whether the first element of the first object of a row has a depth, as each term has.
+/// Returns whether the first element of the first object of a row has a depth, which is true of each term.
 fn is_deep<A: Allocator>(row: &SeenRow<'_, A>) -> bool
     ensures { result ≡ true }
 {
@@ -28,9 +28,9 @@ fn is_deep<A: Allocator>(row: &SeenRow<'_, A>) -> bool
     }
 }
 
-/// Reads the rows at the first places, and of each its object, before a visit comes to them. Here no read waits for
-/// what code does with the row before, so that several are under way at once, and the visit finds all at hand. It
-/// answers nothing: that each term has a depth isn't known to the compiler, which keeps the loop for that.
+/// Reads the rows at the first 64 places, and an object of each, before a visit reaches them. Here no read waits for
+/// what code does with the row before, so several are in progress at once, and the visit finds all in the cache. It
+/// never fails: that each term has a depth is unknown to the compiler, which therefore keeps the loop.
 #[inline(never)]
 fn read_ahead<R: Rows<A>, A: Allocator>(rows: &R, places: &[Place]) -> Result<(), AllocError>
     ensures { IsOk result }
@@ -45,7 +45,7 @@ fn read_ahead<R: Rows<A>, A: Allocator>(rows: &R, places: &[Place]) -> Result<()
     Ok(())
 }
 
-/// Puts the answers on the row at a place behind others, where one stands there.
+/// Appends the answers for the row at a place to `found`, if a row is there. Fails if an allocation fails.
 fn gather_place<'r, R: Rows<A>, A: Allocator + Copy>(
     machine: &mut Machine<'r, '_, A>,
     rows: &'r R,
@@ -65,7 +65,7 @@ fn gather_place<'r, R: Rows<A>, A: Allocator + Copy>(
     }
 }
 
-/// Puts the answers on the rows at places behind others.
+/// Appends the answers for the rows at `places` to `found`. Fails if an allocation fails.
 pub fn gather_listed<'r, R: Rows<A>, A: Allocator + Copy>(
     machine: &mut Machine<'r, '_, A>,
     rows: &'r R,
@@ -85,7 +85,8 @@ pub fn gather_listed<'r, R: Rows<A>, A: Allocator + Copy>(
     Ok(())
 }
 
-/// How many objects of the row at a place answer true, none where no row stands there.
+/// Returns the number of objects of the row at a place for which the query returns `true`, 0 if no row is there. Fails
+/// if an allocation fails.
 fn count_place<'r, R: Rows<A>, A: Allocator + Copy>(
     machine: &mut Machine<'r, '_, A>,
     rows: &'r R,
@@ -101,7 +102,8 @@ fn count_place<'r, R: Rows<A>, A: Allocator + Copy>(
     }
 }
 
-/// How many objects of the rows at places answer true, at most 2^64 - 1.
+/// Returns the number of objects of the rows at `places` for which the query returns `true`, at most 2^64 - 1. Fails if
+/// an allocation fails.
 pub fn count_listed<'r, R: Rows<A>, A: Allocator + Copy>(
     machine: &mut Machine<'r, '_, A>,
     rows: &'r R,

@@ -1,4 +1,4 @@
-//! What code answers on the objects of a key.
+//! Answers of code for the objects of a key.
 ghost use Rattle.std.specs.Prelude.{◌≡◌, ◌++◌, [], ◌∷◌, IfOk, filter, filter_map, length};
 ghost use Rattle.mcode.specs.Answer.{answer_of};
 ghost use Rattle.part_core.specs.Visits.{is_true};
@@ -8,7 +8,7 @@ use part_core::Held;
 use std::alloc::{AllocError, Allocator};
 use term_core::Term;
 
-/// Puts the answer on an object behind others, where there is one.
+/// Appends the answer for an object to `found`, if there is one. Fails if an allocation fails.
 fn gather_one<'r, A: Allocator + Copy>(
     machine: &mut Machine<'r, '_, A>,
     object: &'r Term<A>,
@@ -28,7 +28,7 @@ fn gather_one<'r, A: Allocator + Copy>(
     }
 }
 
-/// Puts the answers on objects behind others.
+/// Appends the answers for `objects` to `found`. Fails if an allocation fails.
 fn gather_all<'r, A: Allocator + Copy>(
     machine: &mut Machine<'r, '_, A>,
     objects: &'r [Term<A>],
@@ -44,7 +44,8 @@ fn gather_all<'r, A: Allocator + Copy>(
     Ok(())
 }
 
-/// Puts the answers on what is held of a key behind others, and counts them.
+/// Appends the answers for the objects held at a key to `found`, and returns their number. Fails if an allocation
+/// fails.
 pub fn gather<'r, A: Allocator + Copy>(
     machine: &mut Machine<'r, '_, A>,
     held: &'r Held<A>,
@@ -60,7 +61,7 @@ pub fn gather<'r, A: Allocator + Copy>(
     Ok((found.len() - before) as u64)
 }
 
-/// Whether an object answers true.
+/// Returns whether the query returns `true` for an object. Fails if an allocation fails.
 pub fn holds<'r, A: Allocator + Copy>(
     machine: &mut Machine<'r, '_, A>,
     object: &'r Term<A>,
@@ -72,7 +73,7 @@ pub fn holds<'r, A: Allocator + Copy>(
     Ok(holds)
 }
 
-/// How many of some objects answer true.
+/// Returns the number of `objects` for which the query returns `true`. Fails if an allocation fails.
 fn count_all<'r, A: Allocator + Copy>(
     machine: &mut Machine<'r, '_, A>,
     objects: &'r [Term<A>],
@@ -89,7 +90,7 @@ fn count_all<'r, A: Allocator + Copy>(
     Ok(count)
 }
 
-/// How many of the objects that are held of a key answer true.
+/// Returns the number of objects held at a key for which the query returns `true`. Fails if an allocation fails.
 pub fn count_true<'r, A: Allocator + Copy>(
     machine: &mut Machine<'r, '_, A>,
     held: &'r Held<A>,

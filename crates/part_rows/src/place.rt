@@ -1,12 +1,12 @@
-//! Where rows stand that are listed by places.
+//! Places of rows, by which rows are listed.
 
-/// Where a row stands: under a key of a slab, if the row that is there is the one that was made then.
+/// Where a row is: at a key of a slab, provided that the row there is still the one that was created then.
 #[derive(Clone, Copy)]
 pub struct Place {
-    /// How many rows were made before it.
+    /// How many rows were created before it.
     pub made: u64,
     /// The key of the slab.
     pub at: u32,
-    /// The part of its key's hash that says in which slot it stands, however many there are.
+    /// The part of its key's hash that determines its slot, however many slots there are.
     pub low: u32,
 }

@@ -1,4 +1,4 @@
-//! What putting an object in makes of the row of its key, and why one isn't put in.
+//! What becomes of the row of a key when an object is inserted, and why none is inserted.
 ghost use Rattle.std.specs.Prelude.{◌≡◌, Some};
 ghost use Rattle.std.specs.Option.{option_copied};
 ghost use Rattle.part_rows.specs.Puts.{is_put, put_at, revived};
@@ -7,24 +7,24 @@ use part_core::{Fault, Held};
 use std::alloc::{AllocError, Allocator};
 use thiserror::Error;
 
-/// What became of the row of a key when an object was put in.
+/// What became of the row of a key when an object was inserted.
 #[derive(Clone, Copy)]
 pub enum Put {
-    /// The key has an object, which wasn't to be replaced: nothing was put in.
+    /// The key has an object, which was not to be replaced: nothing was inserted.
     Kept,
-    /// The object was put into the dead row of its key, which is live now.
+    /// The object was inserted into the dead row of its key, which is live now.
     Revived,
-    /// The object was put into a live row of its key, or into a row that was added.
+    /// The object was inserted into a live row of its key, or into a new row.
     Done,
 }
 
-/// Why nothing was put in.
+/// Why nothing was inserted.
 #[derive(Clone, Copy, Debug, PartialEq, Eq, Error)]
 pub enum PutFault {
-    /// No memory was given.
+    /// An allocation failed.
     #[error("out of memory")]
     Memory,
-    /// It is no object: no tuple with an element at the key's place.
+    /// The term is no object: not a tuple with an element at the key's position.
     #[error("the term is no object")]
     NoObject,
 }
@@ -54,7 +54,7 @@ impl From<PutFault> for Fault {
     }
 }
 
-/// What becomes of a row of which this is held.
+/// Returns what becomes of a row with these objects when an object is inserted that replaces them or not.
 fn over_row<A: Allocator>(held: &Held<A>, replaces: bool) -> Put
     ensures { result ≡ put_at replaces (Some held.now) }
 {
@@ -65,7 +65,8 @@ fn over_row<A: Allocator>(held: &Held<A>, replaces: bool) -> Put
 }
 
 impl Put {
-    /// What becomes of the row of a key, of which this is held, none where it has no row.
+    /// Returns what becomes of the row of a key when an object is inserted; `held` are its objects, or `None` if it has
+    /// no row.
     pub fn over<A: Allocator>(held: Option<&Held<A>>, replaces: bool) -> Put
         ensures { result ≡ put_at replaces (option_copied held.entry) }
     {
@@ -75,7 +76,7 @@ impl Put {
         }
     }
 
-    /// Whether the object was put in.
+    /// Returns whether the object was inserted.
     pub fn is_done(self) -> bool
         ensures { result ≡ is_put self }
     {
@@ -86,7 +87,7 @@ impl Put {
         }
     }
 
-    /// How many dead rows are live now.
+    /// Returns how many dead rows became live: 1 for `Revived`, else 0.
     pub fn revived(self) -> usize
         ensures { result ≡ revived self }
     {

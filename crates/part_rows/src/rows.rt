@@ -1,4 +1,4 @@
-//! What every sort of rows keeps.
+//! What every sort of rows guarantees.
 ghost use Rattle.std.specs.Prelude.{◌≡◌, ◌<◌, ◌-◌, ◌^◌, ◌||◌, ◌++◌, Bool, IsTrue, IsFalse, Option, None, IfOk, IfSome, IsErrOf, OnOk, OnErr, if◌then◌else◌, unwrap_or, filter_map, flat_map, length};
 ghost use Rattle.std.specs.Map.{lookup};
 ghost use Rattle.std.specs.Option.{option_copied};
@@ -8,7 +8,7 @@ ghost use Rattle.part_core.specs.declared.kind.TableKind.{TableKind};
 ghost use Rattle.part_core.specs.declared.settings.Settings.{Settings as AnySettings};
 ghost use Rattle.part_core.specs.Settings.{is_object, is_ordered, key_of};
 ghost use Rattle.part_core.specs.Rows.{Row, has_row, objects_at};
-ghost use Rattle.part_core.specs.Visits.{rows_behind, walk_order};
+ghost use Rattle.part_core.specs.Visits.{following_rows, walk_order};
 ghost use Rattle.part_core.specs.Replies.{first_live, rows_past};
 ghost use Rattle.part_core.specs.Ops.{scope_of};
 ghost use Rattle.part_rows.specs.declared.place.Place.{Place as AnyPlace};
@@ -24,37 +24,38 @@ use std::alloc::{AllocError, Allocator};
 use term_core::Term;
 
 /// Rows of a part, each a key with its objects, found by their keys. What they show is their list, in a set in the
-/// order in which they were made, and in how many slots they stand. Each operation says what it makes of whatever
-/// they show; an operation that wants memory in vain leaves it.
+/// order of their creation, and the number of their slots. The contract of each operation says how it changes whatever
+/// they show. An operation that runs out of memory changes nothing of it.
 pub trait Rows<A: Allocator>: Sized {
     /// The kinds of table that such rows are for.
     ghost serves: { TableKind → Bool };
-    /// What rows of a table show.
+    /// What the rows of a table show.
     ghost shows: { AnySettings → Self → Shown → Type 0 };
-    /// The row that stands at a place.
+    /// The row that is at a place, if one is.
     ghost row_of: { Self → AnyPlace → Option Row };
 
-    /// Whether such rows are for a kind of table.
+    /// Returns whether such rows are for a kind of table.
     fn is_served(kind: TableKind) -> bool
         ensures { result ≡ serves kind };
 
-    /// No rows, in 8 slots.
+    /// Returns no rows, in 8 slots. Fails if an allocation fails.
     fn new(alloc: A, settings: Settings) -> Result<Self, AllocError>
         requires { IsTrue (serves settings.kind) }
         ensures { IfOk result (λ rows. shows settings rows no_rows) };
 
-    /// In how many slots they stand.
+    /// Returns the number of slots.
     fn slots(&self) -> u32
         ensures slots { (o : AnySettings) (w : Shown) → shows o self.now w → result ≡ w.slots }
         ensures some { 0 < result };
 
-    /// What is held of a key, none where it has no row.
+    /// Returns the objects held at a key, or `None` if it has no row.
     fn held(&self, settings: Settings, key: &Term<A>) -> Option<&Held<A>>
         ensures { (w : Shown) → shows settings self.now w → AreSound settings w
             → option_copied result ≡ lookup (is_same key.now) w.rows };
 
-    /// Puts an object in, unless its key has one and it doesn't replace that: the object is taken in either case, and
-    /// the answer says what became of the key's row. What is no object is refused, and nothing is taken then.
+    /// Inserts an object, unless its key has one and `replaces` is `false`; the object is taken in either case. Returns
+    /// what became of the key's row. Fails if the term is no object or an allocation fails; then nothing is taken or
+    /// changed.
     fn put(
         &mut self,
         settings: Settings,
@@ -71,8 +72,8 @@ pub trait Rows<A: Allocator>: Sized {
         ensures back { OnErr result (object.new ≡ object.old) }
         ensures refused { OnErr result ((w : Shown) → shows settings self.old w → shows settings self.new w) };
 
-    /// What is held of a key and `held` change places, where the key has a row, and the answer says whether it has.
-    /// The row goes where none of its objects are left, unless `keeps`. No memory is taken. There are always fewer than
+    /// Exchanges the objects of a key with `held` if the key has a row, and returns whether it has. The row is removed
+    /// if no objects are left, unless `keeps`. It does not allocate. The contract also states that there are fewer than
     /// 2^64 - 1 rows.
     fn exchange(
         &mut self,
@@ -87,12 +88,12 @@ pub trait Rows<A: Allocator>: Sized {
             × shows settings self.new (shown_exchanged key.now held.old keeps w) }
         ensures few { (w : Shown) → shows settings self.old w → length w.rows < 2 ^ 64 - 1 };
 
-    /// Lets the rows go whose keys have no objects. No memory is taken.
+    /// Removes the rows whose keys have no objects. It does not allocate.
     fn keep_live(&mut self)
         ensures { (o : AnySettings) (w : Shown) → shows o self.old w → shows o self.new (shown_live w) };
 
-    /// Puts the rows that a visit may look at behind others: that of a named key; those of a class, of class 0 by the
-    /// base where a walk begins; of an ordered set the first 64 behind the cursor.
+    /// Appends the rows that a visit may look at to `into`: that of a named key; those of a class, which is class 0 by
+    /// `base` if a walk begins; of an ordered set the first 64 after the cursor. Fails if an allocation fails.
     fn look<'r>(
         &'r self,
         settings: Settings,
@@ -106,8 +107,8 @@ pub trait Rows<A: Allocator>: Sized {
         ensures { IfOk result (λ _. (w : Shown) → shows settings self.now w → AreSound settings w
             → into.new.items ≡ into.old.items ++ looked_at settings base (scope_of scope.now) w.rows) };
 
-    /// The places of the rows that a visit may look at, where these stand in one list as they are to be looked at;
-    /// there may be places among them at which no row stands any more. No memory is taken.
+    /// Returns the places of the rows that a visit may look at, if there is one list of them in the order of the visit;
+    /// otherwise `None`. At some of the places there may no longer be a row. It does not allocate.
     fn listed(&self, settings: Settings, base: u32, scope: &Scope<'_, A>) -> Option<&[Place]>
         requires parts { 0 < settings.parts }
         requires base { 0 < base }
@@ -115,27 +116,27 @@ pub trait Rows<A: Allocator>: Sized {
         ensures { IfSome result (λ places. (w : Shown) → shows settings self.now w → AreSound settings w
             → filter_map (row_of self.now) places.now ≡ looked_at settings base (scope_of scope.now) w.rows) };
 
-    /// The row that stands at a place.
+    /// Returns the row that is at a place, or `None` if it is no longer there.
     fn row_at(&self, place: Place) -> Option<SeenRow<'_, A>>
         ensures { result ≡ row_of self.now place };
 
-    /// The first key in the order of a walk that has objects.
+    /// Returns the first key in walk order that has objects, or `None`.
     fn first_key(&self, settings: Settings, base: u32) -> Option<&Term<A>>
         requires parts { 0 < settings.parts }
         requires base { 0 < base }
         ensures { (w : Shown) → shows settings self.now w → AreSound settings w
             → option_copied result ≡ first_live (walk_order settings base w.rows) };
 
-    /// The first key behind another in the order of a walk that has objects. In a set the other has a row.
-    fn key_behind(&self, settings: Settings, base: u32, key: &Term<A>) -> Option<&Term<A>>
+    /// Returns the first key after another in walk order that has objects, or `None`. In a set the other key has a row.
+    fn following_key(&self, settings: Settings, base: u32, key: &Term<A>) -> Option<&Term<A>>
         requires parts { 0 < settings.parts }
         requires base { 0 < base }
         ensures { (w : Shown) → shows settings self.now w → AreSound settings w
             → IsTrue (is_ordered settings.kind || has_row w.rows key.now)
-            → option_copied result ≡ first_live (if is_ordered settings.kind then rows_behind key.now w.rows
+            → option_copied result ≡ first_live (if is_ordered settings.kind then following_rows key.now w.rows
             else rows_past key.now (walk_order settings base w.rows)) };
 
-    /// Puts copies of all objects behind others, in the order of a walk.
+    /// Appends copies of all objects to `into`, in walk order. Fails if an allocation fails.
     fn gather(
         &self,
         settings: Settings,

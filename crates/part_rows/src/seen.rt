@@ -4,7 +4,7 @@ use std::alloc::{Allocator, Global};
 use std::marker::Model;
 use term_core::Term;
 
-/// A key and what is held of it.
+/// A key and the objects held at it.
 #[derive(Drop)]
 pub struct SeenRow<'r, A: Allocator = Global> {
     key: &'r Term<A>,
@@ -27,21 +27,21 @@ impl<'r, A: Allocator> Model for SeenRow<'r, A> {
 impl<'r, A: Allocator> SeenRow<'r, A> {
     ghost use Rattle.std.specs.Prelude.{◌≡◌};
 
-    /// The row of a key.
+    /// Returns the row of a key with the objects held at it.
     pub fn new(key: &'r Term<A>, held: &'r Held<A>) -> Self
         ensures { result ≡ (key.now, held.now) }
     {
         SeenRow { key, held }
     }
 
-    /// The key.
+    /// Returns the key.
     pub fn key(&self) -> &'r Term<A>
         ensures { result.now ≡ self.now.0 }
     {
         self.key
     }
 
-    /// What is held of it.
+    /// Returns the objects held at the key.
     pub fn held(&self) -> &'r Held<A>
         ensures { result.now ≡ self.now.1 }
     {

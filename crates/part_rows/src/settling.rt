@@ -1,4 +1,4 @@
-//! Dead rows go once no session fixes the part.
+//! Removing dead rows once no session fixes the part.
 ghost use Rattle.std.specs.Prelude.{◌≡◌, ◌<◌, if◌then◌else◌};
 ghost use Rattle.part_core.specs.declared.settings.Settings.{Settings as AnySettings};
 ghost use Rattle.part_core.specs.Rows.{is_fixed};
@@ -9,7 +9,7 @@ use crate::rows::Rows;
 use part_core::is_fixed;
 use std::alloc::Allocator;
 
-/// Lets dead rows go, which are looked for only where there are some.
+/// Removes dead rows, and sets their count to 0. Searches for them only if the count is not 0.
 fn keep_live<R: Rows<A>, A: Allocator>(rows: &mut R, dead: &mut usize)
     ensures { (o : AnySettings) (w : Shown) → Keeps R.shows o rows.old dead.old w
         → Keeps R.shows o rows.new dead.new (shown_live w) }
@@ -21,8 +21,8 @@ fn keep_live<R: Rows<A>, A: Allocator>(rows: &mut R, dead: &mut usize)
     *dead = 0;
 }
 
-/// Lets dead rows go, of which there are so many, unless some session fixes the part, and answers the base of walks
-/// that begin from now on: the number of slots, or while the part is fixed the base that it has.
+/// Removes the dead rows, whose number is `dead`, unless some session fixes the part. Returns the base of walks that
+/// begin from now on: the number of slots, or `base` while the part is fixed.
 pub fn settle<R: Rows<A>, A: Allocator>(
     rows: &mut R,
     dead: &mut usize,

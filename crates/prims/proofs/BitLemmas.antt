@@ -23,7 +23,7 @@ int_bit-cast_signed : (m k : ℕ) → m < 2 ^ 64 → k < 64 → int_bit (cast_si
 int_bit-cast_signed m k small within =
     sym (int_bit-cast_unsigned (cast_signed w64 m) k (sfits_to_z (record { fits = small })) within) ∙ ap (λ n. bit_at n k) (of_z-to_z w64 m small)
 
--- what holds of the bits of natural numbers holds of those of two's complements
+-- what holds for the bits of natural numbers holds for those of two's complements
 from_naturals : (f op : ℕ → ℕ → ℕ) (x y : ℤ) → FitsSigned w64 x → FitsSigned w64 y → op (cast_unsigned w64 x) (cast_unsigned w64 y) < 2 ^ 64 → ((a b k : ℕ) → bit_at (op a b) k ≡ f (bit_at a k) (bit_at b k)) → IsMadeOfBits f x y (cast_signed w64 (op (cast_unsigned w64 x) (cast_unsigned w64 y)))
 from_naturals f op x y x_fits y_fits small each k within =
     int_bit-cast_signed (op (cast_unsigned w64 x) (cast_unsigned w64 y)) k small within

@@ -1,4 +1,4 @@
--- Integers that fit 64 bits, and what a call says that gives them.
+-- Integers that fit 64 bits, and the results of calls that return them.
 use Rattle.std.proofs.Common.{◌≡◌, ◌^◌, ◌<◌, ◌≤◌, ℤ, pos, negsuc, sym, ◌∙◌, ap, arith, Some, None, Result, Ok, Err, unsigned_abs}
 use Rattle.std.specs.Prelude.{FitsSigned, OkIff}
 use Rattle.std.specs.Result.{result_ok}
@@ -20,7 +20,7 @@ pub fitting-result_ok : {E : Type 0} (r : Result ℤ E) (z : ℤ) → OkIff r (F
 fitting-result_ok (Ok x) z h = ap Some h.1 ∙ sym (fitting_within z h.0)
 fitting-result_ok (Err e) z h = sym (fitting_outside z h)
 
--- a number past 2 ^ 63 on either side
+-- a number beyond 2 ^ 63 in either direction is outside 64 bits
 pub large_outside : (z : ℤ) → 2 ^ 63 < unsigned_abs z → ¬ FitsSigned w64 z
 large_outside (pos n) large fits = let small : n < 2 ^ 63 = fits.sfits in omega arith
 large_outside (negsuc n) large fits = let small : n < 2 ^ 63 = fits.sfits in omega arith

@@ -1,4 +1,4 @@
--- Each function gives a term of its kind.
+-- Each function returns a term of its kind.
 use Rattle.std.proofs.Common.{◌≡◌, ℤ, List, [], ◌∷◌, Bool, sym, Option, Some, None}
 use Rattle.std.specs.Prelude.{IfSome}
 use Rattle.std.specs.Option.{option_map, option_and_then}

@@ -10,7 +10,7 @@ use Rattle.prims.specs.Fitting.{fitting}
 use Rattle.prims.specs.Tuples.{item_at}
 use Rattle.prims.specs.Lists.{element_count, length_of}
 
--- the elements of a list whose first elements stand together
+-- the number of elements of a list given by its first elements and its tail
 pub element_count-cells : (ds : List Datum) (tail : Datum) → element_count (cells ds tail) ≡ option_map (λ n. length ds + n) (element_count tail)
 element_count-cells [] tail = none_before (element_count tail)
   where
@@ -23,7 +23,7 @@ element_count-cells (d ∷ ds) tail = ap (option_map suc) (element_count-cells d
     one_more None = refl
     one_more (Some n) = ap Some (omega arith)
 
--- how many elements a proper list has, and that there is no number where it goes on in a tail
+-- a proper list has its number of elements, and an improper one has none
 pub length_of-proper : (ds : List Datum) (t : Option Datum) (d : Datum) → t ≡ None → cells ds (tail_of t) ≡ d → length_of d ≡ fitting (pos (length ds))
 length_of-proper ds None d none is =
     ap length_of (sym is)
@@ -45,7 +45,7 @@ length_of-improper ds tail d h is =
     sym (ap (λ o. option_and_then (λ n. fitting (pos n)) o) (element_count-cells ds tail ∙ ap (option_map (λ n. length ds + n)) (no_count tail h)))
     ∙ ap length_of is
 
--- what `get` gives is the element with so many before it
+-- what `get` returns is the element that has n elements before it
 pub item_found : (o : Option (Bor Datum)) (ds : List Datum) (n : ℕ) → MatchOption o (length ds ≤ n) (λ x. (n < length ds) × HoldsAt (λ y. x.now ≡ y) ds n) → option_copied o ≡ item_at (items_of ds) n
 item_found None [] n past = refl
 item_found None (d ∷ ds) zero past = absurd (omega arith)

@@ -1,4 +1,4 @@
--- Look-ups in a map, whose keys rise.
+-- Look-ups in a map, whose keys are in ascending order.
 use Rattle.std.proofs.Common.{◌≡◌, ℕ, zero, suc, ◌<◌, ◌≤◌, List, [], ◌∷◌, length, get_or, false, cond, refl, sym, ◌∙◌, ap, subst, arith, ◌⊎◌, inl, inr, Some, None}
 use Rattle.std.specs.declared.cmp.Ordering.{Ordering}
 use Rattle.std.specs.declared.cmp.Ordering.TheVariants.{Less, Equal, Greater}
@@ -10,14 +10,14 @@ use Rattle.term_core.specs.Order.{datum_cmp}
 use Rattle.term_core.specs.OrderLaws.{datum_cmp_total, datum_cmp-equal, IsBelow-less}
 use Rattle.prims.specs.Maps.{value_at}
 
--- a key stands before each that follows it
+-- a key is below each key that follows it
 keys_rise : (x : Datum × Datum) (xs : List (Datum × Datum)) → ArePairsSound (entries_of (x ∷ xs)) → (j : ℕ) (d : Datum × Datum) → j < length xs → datum_cmp x.0 (get_or xs j d).0 ≡ Less
 keys_rise x [] sound j d within = absurd (omega arith)
 keys_rise x (y ∷ ys) sound zero d within = IsBelow-less x.0 y.0 sound.2
 keys_rise x (y ∷ ys) sound (suc j) d within =
     datum_cmp_total.trans x.0 y.0 (get_or ys j d).0 (IsBelow-less x.0 y.0 sound.2) (keys_rise y ys sound.3 j d (omega arith))
 
--- the value of the key at a place
+-- the value of a key that is at a place is the value there
 pub value_found : (key : Datum) (xs : List (Datum × Datum)) (i : ℕ) (d : Datum × Datum) → ArePairsSound (entries_of xs) → i < length xs → datum_cmp (get_or xs i d).0 key ≡ Equal → Some (get_or xs i d).1 ≡ value_at key (entries_of xs)
 value_found key [] i d sound within same = absurd (omega arith)
 value_found key (x ∷ xs) zero d sound within same =
@@ -28,14 +28,14 @@ value_found key (x ∷ xs) (suc i) d sound within same =
     value_found key xs i d sound.3 (omega arith) same
     ∙ sym (ap (λ o. cond (is_eq o) (Some x.1) (value_at key (entries_of xs))) less)
 
--- no key is equal
+-- a key that is equal to none has no value
 pub value_missing : (key : Datum) (xs : List (Datum × Datum)) → ((j : ℕ) (d : Datum × Datum) → j < length xs → is_eq (datum_cmp (get_or xs j d).0 key) ≡ false) → None ≡ value_at key (entries_of xs)
 value_missing key [] other = refl
 value_missing key (x ∷ xs) other =
     value_missing key xs (λ j d within. other (suc j) d (omega arith))
     ∙ sym (ap (λ b. cond b (Some x.1) (value_at key (entries_of xs))) (other zero x (omega arith)))
 
--- of two terms that rise the second stands no less before a third
+-- of two ascending terms the second compares no lower with a third
 index_rises : (a b key : Datum) → datum_cmp a b ≡ Less → ordering_index (datum_cmp a key) ≤ ordering_index (datum_cmp b key)
 index_rises a b key below = by (datum_cmp a key) refl
   where
@@ -53,7 +53,7 @@ before_or_not j zero = inr (omega arith)
 before_or_not zero (suc i) = inl (omega arith)
 before_or_not (suc j) (suc i) = elim (before_or_not j i) [ inl h ↦ inl (omega arith) | inr h ↦ inr (omega arith) ]
 
--- a place before which all keys are less and from which on all are greater
+-- a key between a place with only smaller keys before it and only greater ones from there on has no value
 pub value_between : (key : Datum) (xs : List (Datum × Datum)) (i : ℕ) → IsPartitionPoint (λ y. datum_cmp y.0 key ≡ Less) (λ y. datum_cmp y.0 key ≡ Greater) xs i → None ≡ value_at key (entries_of xs)
 value_between key xs i apart =
     value_missing key xs (λ j d within. elim (before_or_not j i) [

@@ -12,7 +12,7 @@ use Rattle.prims.proofs.FittingLemmas.{within_abs, large_outside}
 power_past : (n : ℕ) → 64 ≤ n → 2 ^ 64 ≤ 2 ^ n
 power_past n past = pow_mono past
 
--- nothing is left of the number but its sign
+-- a shift by 64 or more places leaves only the sign
 past_zero : (a n : ℕ) → a < 2 ^ 63 → 64 ≤ n → a / 2 ^ n ≡ 0
 past_zero a n small past =
     let power : 2 ^ 64 ≤ 2 ^ n = power_past n past in div-eq_of_lt {n = a} {m = 2 ^ n} (omega arith)
@@ -30,14 +30,14 @@ nonzero_abs (pos zero) nonzero = absurd (nonzero refl)
 nonzero_abs (pos (suc n)) nonzero = omega arith
 nonzero_abs (negsuc n) nonzero = omega arith
 
--- a product with more than 64 places does not fit
+-- a product of more than 64 bits does not fit
 pub shifted_out : (z : ℤ) (n : ℕ) → ¬ (cast_unsigned w64 z ≡ 0) → 63 < n → ¬ FitsSigned w64 (z *ℤ pos (2 ^ n))
 shifted_out z n nonzero past =
     let power : 2 ^ 64 ≤ 2 ^ n = power_past n (omega arith) in
     let product : 1 * 2 ^ n ≤ unsigned_abs z * 2 ^ n = mul-le-mul (nonzero_abs z nonzero) (omega arith) in
     large_outside (z *ℤ pos (2 ^ n)) (rw (unsigned_abs-mul z (pos (2 ^ n))) (omega arith))
 
--- the product of a number and a power, as it is computed at 128 bits
+-- the product of a number and a power of 2, as computed with 128 bits
 pub wide_product : (x y z : ℤ) (n : ℕ) → x ≡ z → y ≡ pos (2 ^ n) → FitsSigned w64 z → n ≤ 63 → cast_signed w128 (cast_unsigned w128 (cast_signed w128 (cast_unsigned w128 x) *ℤ cast_signed w128 (cast_unsigned w128 y))) ≡ z *ℤ pos (2 ^ n)
 wide_product x y z n x_is y_is fits short =
     let power : 2 ^ n ≤ 2 ^ 63 = pow_mono short in
@@ -47,7 +47,7 @@ wide_product x y z n x_is y_is fits short =
     let whole : FitsSigned w128 (z *ℤ pos (2 ^ n)) = fits_signed_mul w128 z (pos (2 ^ n)) (2 ^ 63) (2 ^ 63) abs power (lit< tt) in
     rw (x_is, y_is, to_z-of_z w128 z left, to_z-of_z w128 (pos (2 ^ n)) right) (to_z-of_z w128 (z *ℤ pos (2 ^ n)) whole)
 
--- a power below 2 ^ 64, as it is computed at 64 bits
+-- a power of 2 below 2 ^ 64, as computed with 64 bits
 pub power_is : (n : ℕ) → n ≤ 63 → (1 * 2 ^ n) % 2 ^ 64 ≡ 2 ^ n
 power_is n short =
     let power : 2 ^ n ≤ 2 ^ 63 = pow_mono short in

@@ -8,7 +8,7 @@ use Rattle.prims_table.specs.declared.prim.Arithmetic.TheVariants.{Add, Subtract
 use Rattle.prims.specs.Shifts.{shift_left, shift_right}
 use Rattle.prims.specs.Fitting.{fitting}
 
--- what a function of one integer gives
+-- the result of a function of one integer, None if it is outside 64 bits
 abbrev pub integer_function_of : IntegerFunction → ℤ → Option ℤ
 integer_function_of Abs z = fitting (pos (unsigned_abs z))
 integer_function_of Round z = Some z
@@ -17,17 +17,17 @@ integer_function_of Plus z = Some z
 integer_function_of Negate z = fitting (neg_ℤ z)
 integer_function_of Bnot z = Some (neg_ℤ z -ℤ pos 1)
 
--- the quotient, rounded toward zero
+-- the quotient, rounded toward zero, None if the divisor is 0 or the quotient is outside 64 bits
 abbrev pub quotient : ℤ → ℤ → Option ℤ
 quotient x (pos zero) = None
 quotient x y = fitting (int_div x y)
 
--- what remains of the dividend, with its sign
+-- the remainder, with the sign of the dividend, None if the divisor is 0
 abbrev pub remainder : ℤ → ℤ → Option ℤ
 remainder x (pos zero) = None
 remainder x y = Some (int_rem x y)
 
--- what a function of two integers gives; band, bor, bxor go by the bits of the two's complement
+-- the result of a function of two integers, None if it fails; band, bor and bxor use the bits of the two's complement
 abbrev pub arithmetic_of : Arithmetic → ℤ → ℤ → Option ℤ
 arithmetic_of Add x y = fitting (x +ℤ y)
 arithmetic_of Subtract x y = fitting (x -ℤ y)

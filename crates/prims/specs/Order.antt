@@ -10,7 +10,7 @@ use Rattle.prims_table.specs.declared.prim.Comparison.TheVariants.{Greater, Grea
 use Rattle.prims_table.specs.declared.prim.Extreme.{Extreme}
 use Rattle.prims_table.specs.declared.prim.Extreme.TheVariants.{Max, Min}
 
--- how the first term has to stand to the second
+-- whether a comparison allows this order of the first term and the second
 abbrev pub allows : Comparison → Ordering → Bool
 allows Greater o = is_gt o
 allows GreaterOrEqual o = is_ge o
@@ -21,11 +21,11 @@ allows ExactlyUnequal o = is_ne o
 allows Equal o = is_eq o
 allows Unequal o = is_ne o
 
--- whether the terms stand so
+-- whether two terms satisfy the comparison
 abbrev pub comparison_of : Comparison → Datum → Datum → Bool
 comparison_of comparison d e = allows comparison (datum_cmp d e)
 
--- the greater or the less of two terms
+-- the greater or the smaller of two terms, the first if they are equal
 abbrev pub extreme_of : Extreme → Datum → Datum → Datum
 extreme_of Max d e = if is_lt (datum_cmp d e) then e else d
 extreme_of Min d e = if is_gt (datum_cmp d e) then e else d

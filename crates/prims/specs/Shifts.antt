@@ -2,7 +2,7 @@
 use Rattle.std.specs.Prelude.{ℕ, suc, ◌^◌, ◌/◌, ℤ, pos, negsuc, ◌*ℤ◌, Option, Some}
 use Rattle.prims.specs.Fitting.{fitting}
 
--- x times 2 to the power n
+-- x times 2 to the power n, None if that is outside 64 bits
 abbrev pub times_power : ℤ → ℕ → Option ℤ
 times_power x n = fitting (x *ℤ pos (2 ^ n))
 
@@ -11,7 +11,7 @@ abbrev pub over_power : ℤ → ℕ → ℤ
 over_power (pos a) n = pos (a / 2 ^ n)
 over_power (negsuc a) n = negsuc (a / 2 ^ n)
 
--- bsl and bsr, each the other where the second number is negative
+-- bsl and bsr; a shift by a negative number goes the other way
 abbrev pub shift_left : ℤ → ℤ → Option ℤ
 shift_left x (pos n) = times_power x n
 shift_left x (negsuc n) = Some (over_power x (suc n))

@@ -7,7 +7,7 @@ use prims_table::BooleanFunction;
 use std::alloc::Allocator;
 use term_operand::Operand;
 
-/// Whether all operands are `true`, where all are booleans.
+/// Returns whether all operands are `true`, or `None` if one of them is not a boolean.
 fn all<A: Allocator>(operands: &[Operand<'_, A>]) -> Option<bool>
     ensures { result ≡ all_of (map operand_datum operands.now) }
 {
@@ -19,7 +19,7 @@ fn all<A: Allocator>(operands: &[Operand<'_, A>]) -> Option<bool>
     Some(all)
 }
 
-/// Whether an operand is `true`, where all are booleans.
+/// Returns whether at least one operand is `true`, or `None` if one of them is not a boolean.
 fn any<A: Allocator>(operands: &[Operand<'_, A>]) -> Option<bool>
     ensures { result ≡ any_of (map operand_datum operands.now) }
 {
@@ -31,7 +31,8 @@ fn any<A: Allocator>(operands: &[Operand<'_, A>]) -> Option<bool>
     Some(any)
 }
 
-/// What the function gives, none where an operand is no boolean or their number is another.
+/// Calls the function. Returns `None` if an operand is not a boolean, or the function doesn't take this number of
+/// operands.
 pub(crate) fn call<A: Allocator>(
     function: BooleanFunction,
     operands: &[Operand<'_, A>],

@@ -12,7 +12,7 @@ use prims_table::{Arithmetic, Function, ListFunction, MapFunction, Primitive, Tu
 use std::alloc::Allocator;
 use term_operand::Operand;
 
-/// What a function of one argument gives.
+/// Calls a function of one argument. Returns `None` if the call fails, or the function doesn't take one argument.
 fn of_one<'a, A: Allocator>(function: Function, operand: Operand<'a, A>) -> Option<Operand<'a, A>>
     ensures { option_map operand_datum result ≡ unary_of function (operand_datum operand.entry) }
 {
@@ -32,7 +32,7 @@ fn of_one<'a, A: Allocator>(function: Function, operand: Operand<'a, A>) -> Opti
     }
 }
 
-/// What a function of two integers gives, none where an operand is no integer.
+/// Calls a function of two integers. Returns `None` if an operand is not an integer, or the call fails.
 #[inline(always)]
 fn at_integers<A: Allocator>(
     function: Arithmetic,
@@ -45,7 +45,7 @@ fn at_integers<A: Allocator>(
     integers::compute(function, left.integer()?, right.integer()?)
 }
 
-/// What a function of two arguments gives.
+/// Calls a function of two arguments. Returns `None` if the call fails, or the function doesn't take two arguments.
 #[inline(always)]
 fn of_two<'a, A: Allocator>(
     function: Function,
@@ -71,7 +71,7 @@ fn of_two<'a, A: Allocator>(
     }
 }
 
-/// What a function of three arguments gives.
+/// Calls a function of three arguments. Returns `None` if the call fails, or the function doesn't take three arguments.
 fn of_three<'a, A: Allocator>(
     function: Function,
     first: Operand<'a, A>,
@@ -90,7 +90,7 @@ fn of_three<'a, A: Allocator>(
     }
 }
 
-/// What a function but those of two integers gives.
+/// Calls a function other than those of two integers. Returns `None` if the call fails.
 #[inline(always)]
 fn of_any<'a, A: Allocator>(
     function: Function,
@@ -110,7 +110,7 @@ fn of_any<'a, A: Allocator>(
     }
 }
 
-/// What a function of two integers gives.
+/// Calls a function of two integers. Returns `None` if the call fails, or there are not two operands.
 #[inline(always)]
 fn of_integers<'a, A: Allocator>(
     function: Arithmetic,
@@ -125,7 +125,7 @@ fn of_integers<'a, A: Allocator>(
     }
 }
 
-/// What the function gives for one operand, as `call` of a slice of it does.
+/// Calls the function with one operand, like `call` with a slice of it. Returns `None` if the call fails.
 #[inline(always)]
 pub fn call_unary<'a, A: Allocator>(
     prim: Primitive,
@@ -143,7 +143,7 @@ pub fn call_unary<'a, A: Allocator>(
     }
 }
 
-/// What the function gives for two operands, as `call` of a slice of them does.
+/// Calls the function with two operands, like `call` with a slice of them. Returns `None` if the call fails.
 #[inline(always)]
 pub fn call_binary<'a, A: Allocator>(
     prim: Primitive,
@@ -162,9 +162,9 @@ pub fn call_binary<'a, A: Allocator>(
     }
 }
 
-/// What the function gives for these operands, none where the call fails: where an operand is of the wrong kind, their
-/// number is another, or the result is an integer outside 64 bits. (ERTS User's Guide, "Match Specifications in
-/// Erlang".) Takes no memory.
+/// Calls the function with these operands. Returns `None` if the call fails: an operand is of the wrong kind, the
+/// number of operands is wrong, or the result is an integer outside 64 bits. (ERTS User's Guide, "Match Specifications
+/// in Erlang".) Does not allocate.
 #[tactic(auto, using(crate::proofs::GivenLemmas::given_result))]
 #[inline(always)]
 pub fn call<'a, A: Allocator>(

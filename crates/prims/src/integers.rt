@@ -6,7 +6,7 @@ use crate::bits::{band, bor, bxor};
 use crate::shifts::{shift_left, shift_right};
 use prims_table::{Arithmetic, IntegerFunction};
 
-/// What the function gives, none where that is outside 64 bits.
+/// Calls a function of one integer. Returns `None` if the result is outside 64 bits.
 pub(crate) fn of_one(function: IntegerFunction, value: i64) -> Option<i64>
     ensures { result ≡ integer_function_of function value }
 {
@@ -18,7 +18,7 @@ pub(crate) fn of_one(function: IntegerFunction, value: i64) -> Option<i64>
     }
 }
 
-/// What the function gives, none where that is outside 64 bits or the divisor is 0.
+/// Calls a function of two integers. Returns `None` if the result is outside 64 bits or the divisor is 0.
 pub fn compute(function: Arithmetic, left: i64, right: i64) -> Option<i64>
     ensures { result ≡ arithmetic_of function left right }
 {
@@ -36,7 +36,8 @@ pub fn compute(function: Arithmetic, left: i64, right: i64) -> Option<i64>
     }
 }
 
-/// What remains of the dividend. Of the least number by -1 that is 0, where `checked_rem` gives none.
+/// Returns the remainder of a division, with the sign of the dividend, or `None` if the divisor is 0. For the least
+/// integer and -1 it is 0, for which `checked_rem` returns `None`.
 fn rem(dividend: i64, divisor: i64) -> Option<i64>
     ensures { result ≡ remainder dividend divisor }
 {

@@ -8,7 +8,7 @@ use std::alloc::Allocator;
 use term_core::View;
 use term_operand::Operand;
 
-/// Whether the operand is of the kind.
+/// Returns whether the operand is of the kind that the test names.
 pub(crate) fn is_of_kind<A: Allocator>(test: Test, operand: Operand<'_, A>) -> bool
     ensures { result ≡ test_of test (operand_datum operand.entry) }
 {

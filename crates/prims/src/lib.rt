@@ -1,15 +1,14 @@
-//! The functions of match specifications, of which one is called by `call` over operands that it
-//! borrows (ERTS User's Guide, "Match Specifications in Erlang"; Erlang Reference Manual, module
-//! erlang).
+//! The functions of match specifications. `call` calls one with operands that it borrows (ERTS User's Guide, "Match
+//! Specifications in Erlang"; Erlang Reference Manual, module erlang).
 //!
-//! The one contract: `call` gives what `function_of` of `specs/Calls.antt` gives, a partial function
-//! on lists of terms, and none exactly where that has no value.
+//! The contract: `call` returns what `function_of` of `specs/Calls.antt` gives, a partial function on lists of terms.
+//! It returns `None` exactly if that has no value.
 //!
-//! Which functions there are stands in `prims_table`.
+//! The list of functions is in `prims_table`.
 //!
-//! - `kinds`, `booleans`, `order`, `integers`, `shifts`, `tuples`, `lists`, `maps`, `sizes`: a family
-//!   each. `calls`: which family a function is of.
-//! - `values`: calls over values, of which some may have been made.
+//! - `kinds`, `booleans`, `order`, `integers`, `shifts`, `tuples`, `lists`, `maps`, `sizes`: one family each. `calls`:
+//!   selects the family of a function.
+//! - `values`: calls with values, some of which may have been made.
 #![tactic(auto)]
 
 mod bits;

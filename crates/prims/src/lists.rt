@@ -8,7 +8,7 @@ use std::alloc::Allocator;
 use term_core::{Term, View};
 use term_operand::Operand;
 
-/// `hd`
+/// `hd`: returns the first element, or `None` if the operand is not a list with elements.
 pub(crate) fn head<'a, A: Allocator>(list: Operand<'a, A>) -> Option<&'a Term<A>>
     ensures { option_copied result ≡ head_of (operand_datum list.entry) }
 {
@@ -18,7 +18,7 @@ pub(crate) fn head<'a, A: Allocator>(list: Operand<'a, A>) -> Option<&'a Term<A>
     }
 }
 
-/// `tl`
+/// `tl`: returns what follows the first element, or `None` if the operand is not a list with elements.
 pub(crate) fn tail<'a, A: Allocator>(list: Operand<'a, A>) -> Option<Operand<'a, A>>
     ensures { option_map operand_datum result ≡ tail_behind (operand_datum list.entry) }
 {
@@ -28,7 +28,7 @@ pub(crate) fn tail<'a, A: Allocator>(list: Operand<'a, A>) -> Option<Operand<'a,
     }
 }
 
-/// `length`
+/// `length`: returns the number of elements, or `None` if the operand is not a proper list.
 pub(crate) fn length<A: Allocator>(list: Operand<'_, A>) -> Option<i64>
     ensures { result ≡ length_of (operand_datum list.entry) }
 {

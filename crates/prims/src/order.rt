@@ -8,7 +8,7 @@ use std::alloc::Allocator;
 use std::cmp::Ordering;
 use term_operand::{Operand, compare};
 
-/// Whether two terms that stand so meet the comparison.
+/// Returns whether two terms that compare like this satisfy the comparison.
 #[inline(always)]
 fn allows(comparison: Comparison, order: Ordering) -> bool
     ensures { result ≡ spec.allows comparison order }
@@ -23,7 +23,7 @@ fn allows(comparison: Comparison, order: Ordering) -> bool
     }
 }
 
-/// Whether the operands meet the comparison.
+/// Returns whether the operands satisfy the comparison.
 #[inline(always)]
 pub fn meets<A: Allocator>(
     comparison: Comparison,
@@ -36,7 +36,7 @@ pub fn meets<A: Allocator>(
     allows(comparison, compare(left, right))
 }
 
-/// The greater or the less of the operands.
+/// Returns the greater or the smaller of the operands. Of equal operands it returns the left one.
 pub(crate) fn extreme<'a, A: Allocator>(
     extreme: Extreme,
     left: Operand<'a, A>,

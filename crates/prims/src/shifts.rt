@@ -2,7 +2,7 @@
 ghost use Rattle.std.specs.Prelude.{◌≡◌};
 ghost use Rattle.prims.specs.Shifts as spec;
 
-/// The value times 2 to the power `by`.
+/// Returns the value times 2 to the power `by`, or `None` if that is outside 64 bits.
 fn times_power(value: i64, by: u64) -> Option<i64>
     ensures { result ≡ spec.times_power value by }
 {
@@ -16,7 +16,7 @@ fn times_power(value: i64, by: u64) -> Option<i64>
     i64::try_from(product).ok()
 }
 
-/// The value divided by 2 to the power `by`, rounded down.
+/// Returns the value divided by 2 to the power `by`, rounded down.
 fn over_power(value: i64, by: u64) -> i64
     ensures { result ≡ spec.over_power value by }
 {
@@ -29,7 +29,7 @@ fn over_power(value: i64, by: u64) -> i64
     }
 }
 
-/// `value bsl by`.
+/// `value bsl by`, or `None` if that is outside 64 bits.
 pub(crate) fn shift_left(value: i64, by: i64) -> Option<i64>
     ensures { result ≡ spec.shift_left value by }
 {
@@ -40,7 +40,7 @@ pub(crate) fn shift_left(value: i64, by: i64) -> Option<i64>
     }
 }
 
-/// `value bsr by`.
+/// `value bsr by`, or `None` if that is outside 64 bits.
 pub(crate) fn shift_right(value: i64, by: i64) -> Option<i64>
     ensures { result ≡ spec.shift_right value by }
 {

@@ -1,4 +1,4 @@
-//! How large a term is.
+//! The sizes of terms.
 ghost use Rattle.std.specs.Prelude.{◌≡◌, ◌≤◌, length, pos};
 ghost use Rattle.term_core.specs.Datum.{item_count, items_of};
 ghost use Rattle.term_core.specs.Datum.Datum.{tuple, binary};
@@ -11,7 +11,7 @@ use std::alloc::Allocator;
 use term_core::{MAX_BINARY, MAX_TUPLE, Term, View};
 use term_operand::Operand;
 
-/// How many bytes a binary has.
+/// Returns the number of bytes of a binary.
 fn byte_count(bytes: &[u8]) -> i64
     requires { length bytes.now ≤ MAX_BINARY }
     ensures { result ≡ pos (length bytes.now) }
@@ -19,7 +19,7 @@ fn byte_count(bytes: &[u8]) -> i64
     bytes.len() as i64
 }
 
-/// What the function gives of a tuple.
+/// Returns what the function measures of a tuple, or `None` if it doesn't measure tuples.
 fn of_tuple<A: Allocator>(function: SizeFunction, elements: &[Term<A>]) -> Option<i64>
     requires { item_count (items_of elements.now) ≤ MAX_TUPLE }
     ensures { result ≡ size_of function (tuple (items_of elements.now)) }
@@ -30,7 +30,7 @@ fn of_tuple<A: Allocator>(function: SizeFunction, elements: &[Term<A>]) -> Optio
     }
 }
 
-/// What the function gives of a binary.
+/// Returns what the function measures of a binary, or `None` if it doesn't measure binaries.
 fn of_binary(function: SizeFunction, bytes: &[u8]) -> Option<i64>
     requires { length bytes.now ≤ MAX_BINARY }
     ensures { result ≡ size_of function (binary bytes.now) }
@@ -42,7 +42,7 @@ fn of_binary(function: SizeFunction, bytes: &[u8]) -> Option<i64>
     }
 }
 
-/// What the function gives, none of a term that it does not measure.
+/// Returns the size of a term that the function measures, or `None` if it doesn't measure terms of this kind.
 pub(crate) fn size<A: Allocator>(function: SizeFunction, operand: Operand<'_, A>) -> Option<i64>
     ensures { result ≡ size_of function (operand_datum operand.entry) }
 {

@@ -1,6 +1,7 @@
 //! Functions of tuples.
 ghost use Rattle.std.specs.Prelude.{◌≡◌, ◌≤◌, pos};
 ghost use Rattle.std.specs.Option.{option_copied};
+ghost use Rattle.std.specs.Str.{chars};
 ghost use Rattle.term_core.specs.Datum.{item_count, items_of};
 ghost use Rattle.term_core.specs.Datum.Items.{no_items, item};
 ghost use Rattle.term_operand.specs.Operand.{operand_datum};
@@ -10,7 +11,7 @@ use std::alloc::Allocator;
 use term_core::{MAX_TUPLE, Term, View};
 use term_operand::Operand;
 
-/// How many elements a tuple has.
+/// Returns the number of elements of a tuple.
 pub(crate) fn element_count<A: Allocator>(elements: &[Term<A>]) -> i64
     requires { item_count (items_of elements.now) ≤ MAX_TUPLE }
     ensures { result ≡ pos (item_count (items_of elements.now)) }
@@ -18,14 +19,15 @@ pub(crate) fn element_count<A: Allocator>(elements: &[Term<A>]) -> i64
     elements.len() as i64
 }
 
-/// The index of a place that is counted from 1.
+/// Returns the index, counted from 0, for a place counted from 1, or `None` if there can be no such element.
 fn index(place: i64) -> Option<usize>
     ensures { result ≡ index_of place }
 {
     usize::try_from(place.checked_sub(1)?).ok()
 }
 
-/// The element at a place, counted from 1.
+/// `element`: returns the element at a place counted from 1. Returns `None` if there is none or an operand is of the
+/// wrong kind.
 pub(crate) fn element<'a, A: Allocator>(
     place: Operand<'a, A>,
     tuple: Operand<'a, A>,
@@ -39,19 +41,20 @@ pub(crate) fn element<'a, A: Allocator>(
     }
 }
 
-/// Whether the term is the atom of that name.
-fn is_atom<A: Allocator>(term: &Term<A>, name: &[char]) -> bool
-    ensures { result ≡ begins_with (item term.now no_items) name.now }
+/// Returns whether the term is the atom of this name.
+#[tactic(auto, using(term_core::proofs::TextEq::text_eq))]
+fn is_atom<A: Allocator>(term: &Term<A>, name: &str) -> bool
+    ensures { result ≡ begins_with (item term.now no_items) (chars name.now) }
 {
     match Operand::Term(term).view() {
-        View::Atom(characters) => characters == name,
+        View::Atom(text) => text == name,
         _ => false,
     }
 }
 
-/// Whether the operand is a tuple of that size whose first element is the atom of that name.
-fn is_named<A: Allocator>(operand: Operand<'_, A>, name: &[char], size: i64) -> bool
-    ensures { result ≡ is_named (operand_datum operand.entry) name.now size }
+/// Returns whether the operand is a tuple of this size whose first element is the atom of this name.
+fn is_named<A: Allocator>(operand: Operand<'_, A>, name: &str, size: i64) -> bool
+    ensures { result ≡ is_named (operand_datum operand.entry) (chars name.now) size }
 {
     match operand.view() {
         View::Tuple(elements) => match elements {
@@ -62,7 +65,8 @@ fn is_named<A: Allocator>(operand: Operand<'_, A>, name: &[char], size: i64) -> 
     }
 }
 
-/// `is_record`, none where the name is no atom or the size no integer.
+/// `is_record`: returns whether the operand is a tuple of this size and name. Returns `None` if the name is not an atom
+/// or the size not an integer.
 pub(crate) fn is_record<A: Allocator>(
     operand: Operand<'_, A>,
     name: Operand<'_, A>,

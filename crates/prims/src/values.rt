@@ -1,4 +1,4 @@
-//! Calls of functions over values, of which some may have been made.
+//! Calls of functions with values, some of which may have been made.
 ghost use Rattle.std.specs.Prelude.{◌≡◌, ◌∷◌, [], ◌≤◌, length, map, IfOk, IfSome, IsOkAnd, IsSome, IsTrue};
 ghost use Rattle.std.specs.Option.{option_map};
 ghost use Rattle.term_operand.specs.Operand.{operand_datum};
@@ -12,10 +12,10 @@ use smallvec::SmallVec;
 use std::alloc::{AllocError, Allocator};
 use term_operand::{Operand, Value};
 
-/// How many borrowed values a call takes without memory.
+/// The largest number of borrowed values that a call takes without an allocation.
 pub const INLINE_OPERANDS: usize = 16;
 
-/// What a call gave of operands that last, none where it failed.
+/// Returns the value of a call's result that borrows what the values borrowed, or `None` if the call failed.
 #[inline(always)]
 fn given<'a, A: Allocator>(operand: Option<Operand<'a, A>>) -> Option<Value<'a, A>>
     ensures value { option_map value_datum result ≡ option_map operand_datum operand.entry }
@@ -27,7 +27,7 @@ fn given<'a, A: Allocator>(operand: Option<Operand<'a, A>>) -> Option<Value<'a, 
     }
 }
 
-/// What a call gave of operands that don't last, none where it failed.
+/// Returns the value of a call's result that borrows from values. Copies it. Returns `None` if the call failed.
 fn kept<'a, A: Allocator + Copy>(
     alloc: A,
     operand: Option<Operand<'_, A>>,
@@ -41,8 +41,8 @@ fn kept<'a, A: Allocator + Copy>(
     }
 }
 
-/// What a function gives of one value, none where the call fails. What it gives of a borrowed one is borrowed, and
-/// takes no memory; else it is copied.
+/// Calls a function with one value. Returns `None` if the call fails. The result for a borrowed value is borrowed and
+/// needs no memory; otherwise it is copied. An error means out of memory.
 #[inline(always)]
 pub fn call_one<'a, A: Allocator + Copy>(
     alloc: A,
@@ -60,8 +60,8 @@ pub fn call_one<'a, A: Allocator + Copy>(
     kept(alloc, call_unary(function, value.operand()))
 }
 
-/// What a function gives of two values, none where the call fails. What it gives of borrowed ones is borrowed, and
-/// takes no memory; else it is copied.
+/// Calls a function with two values. Returns `None` if the call fails. The result for two borrowed values is borrowed
+/// and needs no memory; otherwise it is copied. An error means out of memory.
 #[inline(always)]
 pub fn call_two<'a, A: Allocator + Copy>(
     alloc: A,
@@ -89,7 +89,8 @@ pub fn call_two<'a, A: Allocator + Copy>(
     )
 }
 
-/// These values as operands that last, where none was made. Few of them take no memory.
+/// Returns these values as operands that borrow what the values borrow, or `None` if one of them was made. Up to
+/// `INLINE_OPERANDS` of them need no allocation.
 fn lasting<'h, 'a, A: Allocator + Copy>(
     heap: &'h A,
     values: &[Value<'a, A>],
@@ -109,7 +110,7 @@ fn lasting<'h, 'a, A: Allocator + Copy>(
     Ok(Some(operands))
 }
 
-/// These values as operands.
+/// Returns these values as operands that borrow from the values.
 fn operands_of<'a, A: Allocator + Copy>(
     alloc: A,
     values: &'a [Value<'_, A>],
@@ -124,8 +125,9 @@ fn operands_of<'a, A: Allocator + Copy>(
     Ok(operands)
 }
 
-/// What a function gives of these values, none where the call fails. What it gives of borrowed values alone is
-/// borrowed, and up to `INLINE_OPERANDS` of them take no memory; else it is copied.
+/// Calls a function with these values. Returns `None` if the call fails. If all values are borrowed, the result is
+/// borrowed, and up to `INLINE_OPERANDS` values need no allocation; otherwise the result is copied. An error means out
+/// of memory.
 #[inline(never)]
 pub fn call_values<'a, A: Allocator + Copy>(
     heap: &A,

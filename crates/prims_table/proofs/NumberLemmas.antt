@@ -14,12 +14,12 @@ use Rattle.prims_table.specs.declared.prim.Primitive.TheVariants as prim
 use Rattle.prims_table.specs.declared.prim.Function.{Function}
 use Rattle.prims_table.specs.declared.prim.Arithmetic.{Arithmetic}
 
--- the place behind which a function stands
+-- the place of a function in the table, counted from 1
 abbrev rank : Primitive → ℕ
 rank (prim.Function f) = function_number f
 rank (prim.Arithmetic a) = 46 + arithmetic_number a
 
--- these stand behind the places from this one on
+-- these functions are at the places of the table from this one on
 abbrev are_ranked : ℕ → List Primitive → Bool
 are_ranked k [] = true
 are_ranked k (p ∷ ps) = nat_eq (rank p) (suc k) && are_ranked (suc k) ps
@@ -37,7 +37,7 @@ rank_at k (q ∷ ps) ranked (suc i) p is =
     let later = rank_at (suc k) ps (second_so (nat_eq (rank q) (suc k)) (are_ranked (suc k) ps) ranked) i p is in
     omega (arith, later)
 
--- what is found stands somewhere
+-- what is found is at some place
 place_of : (cs : List ℕ) (n : ℕ) (ps : List Primitive) (p : Primitive) → found cs n ps ≡ Some p → (i : ℕ) × (slice_get ps i ≡ Some p)
 place_of cs n [] p is = absurd (none-some p is)
 place_of cs n (q ∷ ps) p is = by (pointwise nat_eq (name_of q) cs && takes q n) (place_of cs n ps p) is
@@ -63,7 +63,7 @@ arithmetic_says None a is = absurd (none-some a is)
 arithmetic_says (Some (prim.Arithmetic b)) a is = ap (λ h. Some (prim.Arithmetic h)) (same_Some b a is)
 arithmetic_says (Some (prim.Function f)) a is = absurd (none-some a is)
 
--- the numbers both ways
+-- a function is at the place of a number exactly if that is its number
 pub function_at : (number place : ℕ) (r : Option Function) → number ≡ suc place → r ≡ function_of (slice_get ALL place) → (f : Function) → (r ≡ Some f) ↔ (function_number f ≡ number)
 function_at number place r next r_is f = (
   λ is. let ranked = rank_at 0 ALL all_ranked place (prim.Function f) (function_says (slice_get ALL place) f (sym r_is ∙ is)) in omega (arith, ranked, next),

@@ -1,4 +1,4 @@
--- Which kind of term a function gives.
+-- The kind of term that each function returns.
 use Rattle.prims_table.specs.declared.gives.Gives.{Gives}
 use Rattle.prims_table.specs.declared.gives.Gives.TheVariants.{Boolean, Integer, Any}
 use Rattle.prims_table.specs.declared.prim.Primitive.{Primitive}
@@ -8,8 +8,8 @@ use Rattle.prims_table.specs.declared.prim.TupleFunction.TheVariants as tuple
 use Rattle.prims_table.specs.declared.prim.ListFunction.TheVariants as list
 use Rattle.prims_table.specs.declared.prim.MapFunction.TheVariants as map
 
--- tests, comparisons and functions of truth values give a boolean; numbers and sizes are integers; the rest give any
--- term
+-- the kind of term that a function returns: a boolean for tests, comparisons and functions of truth values, an integer
+-- for arithmetic and sizes, any term for the others
 abbrev pub gives_of : Primitive → Gives
 gives_of (prim.Function (function.Test test)) = Boolean
 gives_of (prim.Function (function.Boolean boolean)) = Boolean

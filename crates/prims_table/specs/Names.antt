@@ -1,5 +1,5 @@
--- The functions' names and how many arguments each takes (ERTS User's Guide, "Match Specifications in Erlang",
--- "Grammar").
+-- The names of functions and the number of arguments that each takes (ERTS User's Guide, "Match Specifications in
+-- Erlang", "Grammar").
 use Rattle.std.specs.Prelude.{ℕ, Bool, ◌&&◌, if◌then◌else◌, List, [], ◌∷◌, Option, Some, None, nat_eq, nat_lt, codes}
 use Rattle.std.specs.Cmp.Lexicographic.{pointwise}
 use Rattle.prims_table.specs.declared.names.TheConstants.{ALL}
@@ -17,7 +17,7 @@ use Rattle.prims_table.specs.declared.prim.ListFunction.TheVariants as list
 use Rattle.prims_table.specs.declared.prim.MapFunction.TheVariants as map
 use Rattle.prims_table.specs.declared.prim.SizeFunction.TheVariants as size
 
--- the atom that names the function, as its characters
+-- the characters of the atom that names a function
 abbrev pub name_of : Primitive → List ℕ
 name_of (prim.Function (function.Test test.IsAtom)) = codes "is_atom"
 name_of (prim.Function (function.Test test.IsInteger)) = codes "is_integer"
@@ -76,7 +76,7 @@ name_of (prim.Function (function.Size size.TupleSize)) = codes "tuple_size"
 name_of (prim.Function (function.Size size.ByteSize)) = codes "byte_size"
 name_of (prim.Function (function.Size size.BitSize)) = codes "bit_size"
 
--- how many arguments the function takes, and and or at least
+-- the number of arguments that a function takes; the smallest number for and and or
 abbrev pub arity_of : Primitive → ℕ
 arity_of (prim.Function (function.Test of_kind)) = 1
 arity_of (prim.Function (function.Boolean boolean.Not)) = 1
@@ -95,18 +95,18 @@ arity_of (prim.Function (function.Map map.MapGet)) = 2
 arity_of (prim.Function (function.Map map.MapSize)) = 1
 arity_of (prim.Function (function.Size of_a_term)) = 1
 
--- whether the function takes so many arguments
+-- whether a function takes n arguments
 abbrev pub takes : Primitive → ℕ → Bool
 takes (prim.Function (function.Boolean boolean.And)) n = nat_lt 0 n
 takes (prim.Function (function.Boolean boolean.Or)) n = nat_lt 0 n
 takes p n = nat_eq n (arity_of p)
 
--- the first of these functions that has the name and takes so many arguments
+-- the first of these functions that has this name and takes n arguments
 abbrev pub found : List ℕ → ℕ → List Primitive → Option Primitive
 found cs n [] = None
 found cs n (p ∷ ps) =
     if pointwise nat_eq (name_of p) cs && takes p n then Some p else found cs n ps
 
--- the function of that name that takes so many arguments
+-- the function of this name that takes n arguments, None if there is none
 abbrev pub named : List ℕ → ℕ → Option Primitive
 named cs n = found cs n ALL

@@ -16,7 +16,7 @@ use Rattle.prims_table.specs.declared.prim.ListFunction.TheVariants as list
 use Rattle.prims_table.specs.declared.prim.MapFunction.TheVariants as map
 use Rattle.prims_table.specs.declared.prim.SizeFunction.TheVariants as size
 
--- the number of a function but those of two integers
+-- the number of a function other than those of two integers
 abbrev pub function_number : Function → ℕ
 function_number (function.Test test.IsAtom) = 1
 function_number (function.Test test.IsInteger) = 2
@@ -78,7 +78,7 @@ arithmetic_number arithmetic.Bxor = 8
 arithmetic_number arithmetic.Bsl = 9
 arithmetic_number arithmetic.Bsr = 10
 
--- the function, where it is not of two integers, or is
+-- the function if it is not one of two integers, else None
 abbrev pub function_of : Option Primitive → Option Function
 function_of (Some (prim.Function f)) = Some f
 function_of p = None

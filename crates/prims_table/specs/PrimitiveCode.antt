@@ -1,4 +1,4 @@
--- The code of functions, by which proofs tell them apart: name and number of arguments.
+-- A function's name and number of arguments, as a code by which proofs tell functions apart.
 use Rattle.std.specs.Prelude.{ℕ, ◌≡◌, List, Option, Some, None, refl}
 use Rattle.std.specs.Coded.{Coded, code_by, coded×, coded_ℕ, coded_list}
 use Rattle.std.proofs.Common.{ap}
@@ -18,7 +18,7 @@ use Rattle.prims_table.specs.declared.prim.ListFunction.TheVariants as list
 use Rattle.prims_table.specs.declared.prim.MapFunction.TheVariants as map
 use Rattle.prims_table.specs.declared.prim.SizeFunction.TheVariants as size
 
--- each function stands in the table, and nothing before it has its name and number of arguments
+-- each function is found in the table by its name and number of arguments
 pub found_at : (p : Primitive) → found (name_of p) (arity_of p) ALL ≡ Some p
 found_at (prim.Function (function.Test test.IsAtom)) = refl
 found_at (prim.Function (function.Test test.IsInteger)) = refl

@@ -1,10 +1,10 @@
-//! Which kind of term a function gives.
+//! The kind of term that each function returns.
 ghost use Rattle.std.specs.Prelude.{◌≡◌};
 ghost use Rattle.prims_table.specs.Gives.{gives_of};
 
 use crate::prim::{Function, ListFunction, MapFunction, Primitive, TupleFunction};
 
-/// Which kind of term a function gives, where it gives one.
+/// The kind of term that a function returns if a call succeeds.
 #[derive(Clone, Copy, Debug, PartialEq, Eq)]
 pub enum Gives {
     /// The atom `true` or `false`.
@@ -20,7 +20,7 @@ impl Function {
     ghost use Rattle.prims_table.specs.Gives.{gives_of};
     ghost use Rattle.prims_table.specs.declared.prim.Primitive.TheVariants as prim;
 
-    /// Which kind of term the function gives.
+    /// Returns the kind of term that the function returns.
     pub const fn gives(self) -> Gives
         ensures { result ≡ gives_of (prim.Function self) }
     {
@@ -43,7 +43,7 @@ impl Primitive {
     ghost use Rattle.std.specs.Prelude.{◌≡◌};
     ghost use Rattle.prims_table.specs.Gives.{gives_of};
 
-    /// Which kind of term the function gives.
+    /// Returns the kind of term that the function returns.
     pub const fn gives(self) -> Gives
         ensures { result ≡ gives_of self }
     {

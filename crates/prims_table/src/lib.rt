@@ -1,13 +1,13 @@
-//! Which functions match specifications may call (ERTS User's Guide, "Match Specifications in
-//! Erlang", "Grammar"): their names, how many arguments each takes, and the numbers by which
-//! instructions name them. What they give of which terms stands in `prims`.
+//! The functions that match specifications may call (ERTS User's Guide, "Match Specifications in Erlang", "Grammar"):
+//! their names, the number of arguments that each takes, and the numbers by which instructions name them. What they
+//! return for which terms is in `prims`.
 //!
-//! The one contract: `Primitive::named` is `named` of `specs/Names.antt`, the one function of a name
-//! and a number of arguments; a number names the function that has it (`specs/Numbers.antt`).
+//! The contract: `Primitive::named` is `named` of `specs/Names.antt`, which finds the one function for a name and a
+//! number of arguments. A number names the function that has it (`specs/Numbers.antt`).
 //!
-//! - `prim`: which functions there are, in families.
-//! - `names`: their names and numbers of arguments. `numbers`: their numbers. `gives`: the kind of
-//!   term that each gives.
+//! - `prim`: the functions, in families.
+//! - `names`: their names and numbers of arguments. `numbers`: their numbers. `gives`: the kind of term that each
+//!   returns.
 #![tactic(auto)]
 
 mod gives;

@@ -1,4 +1,4 @@
-//! The functions' names.
+//! The names of functions and their numbers of arguments.
 ghost use Rattle.std.specs.Prelude.{◌≡◌, ◌↔◌, nat_eq, IsTrue, Some};
 ghost use Rattle.std.specs.Cmp.Lexicographic.{pointwise};
 ghost use Rattle.prims_table.specs.Names as spec;
@@ -197,28 +197,12 @@ const fn size_name(size: SizeFunction) -> &'static str
     }
 }
 
-/// Whether these characters are the bytes of the text.
-fn is_text(characters: &[char], text: &str) -> bool
-    ensures { result ≡ pointwise nat_eq text.now characters.now }
-{
-    let bytes = text.as_bytes();
-    if bytes.len() != characters.len() {
-        return false;
-    }
-    for (index, byte) in bytes.iter().enumerate() {
-        if characters[index] != char::from(*byte) {
-            return false;
-        }
-    }
-    true
-}
-
-/// The first of these functions that has the name and takes so many arguments.
-fn find(prims: &[Primitive], name: &[char], arguments: usize) -> Option<Primitive>
+/// Returns the first of these functions that has this name and takes this number of arguments, or `None`.
+fn find(prims: &[Primitive], name: &str, arguments: usize) -> Option<Primitive>
     ensures { result ≡ spec.found name.now arguments prims.now }
 {
     for prim in prims {
-        if is_text(name, prim.name()) && prim.takes(arguments) {
+        if prim.name() == name && prim.takes(arguments) {
             return Some(*prim);
         }
     }
@@ -230,7 +214,7 @@ impl Function {
     ghost use Rattle.prims_table.specs.Names as spec;
     ghost use Rattle.prims_table.specs.declared.prim.Primitive.TheVariants as prim;
 
-    /// The atom that names the function.
+    /// Returns the function's name, an atom.
     const fn name(self) -> &'static str
         ensures { result.now ≡ spec.name_of (prim.Function self) }
     {
@@ -247,7 +231,7 @@ impl Function {
         }
     }
 
-    /// How many arguments the function takes: `and` and `or` so many or more.
+    /// Returns the number of arguments that the function takes. For `and` and `or` it is the smallest number.
     const fn arity(self) -> usize
         ensures { result ≡ spec.arity_of (prim.Function self) }
     {
@@ -264,7 +248,7 @@ impl Function {
         }
     }
 
-    /// Whether the function takes so many arguments.
+    /// Returns whether the function takes this number of arguments.
     pub const fn takes(self, arguments: usize) -> bool
         ensures { result ≡ spec.takes (prim.Function self) arguments }
     {
@@ -277,10 +261,11 @@ impl Function {
 
 impl Primitive {
     ghost use Rattle.std.specs.Prelude.{◌≡◌, ◌↔◌, IsTrue, Some};
+    ghost use Rattle.std.specs.Str.{chars};
     ghost use Rattle.prims_table.specs.Names as spec;
     ghost use Rattle.prims_table.specs.declared.prim.Primitive.{Primitive as AnyPrimitive};
 
-    /// The atom that names the function.
+    /// Returns the function's name, an atom.
     pub const fn name(self) -> &'static str
         ensures { result.now ≡ spec.name_of self }
     {
@@ -290,7 +275,7 @@ impl Primitive {
         }
     }
 
-    /// Whether the function takes so many arguments.
+    /// Returns whether the function takes this number of arguments.
     pub const fn takes(self, arguments: usize) -> bool
         ensures { result ≡ spec.takes self arguments }
     {
@@ -300,11 +285,11 @@ impl Primitive {
         }
     }
 
-    /// The function of that name that takes so many arguments, none where there is none.
-    pub fn named(name: &[char], arguments: usize) -> Option<Primitive>
-        ensures value { result ≡ spec.named name.now arguments }
+    /// Returns the function of this name that takes this number of arguments, or `None` if there is none.
+    pub fn named(name: &str, arguments: usize) -> Option<Primitive>
+        ensures value { result ≡ spec.named (chars name.now) arguments }
         ensures table { (p : AnyPrimitive) → (result ≡ Some p)
-            ↔ ((spec.name_of p ≡ name.now) × IsTrue (spec.takes p arguments)) }
+            ↔ ((spec.name_of p ≡ chars name.now) × IsTrue (spec.takes p arguments)) }
     {
         find(&ALL, name, arguments)
     }

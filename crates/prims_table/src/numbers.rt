@@ -5,17 +5,17 @@ ghost use Rattle.prims_table.specs.Numbers.{function_of, arithmetic_of};
 use crate::names::ALL;
 use crate::prim::{Arithmetic, Function, Primitive};
 
-/// How many functions are not of two integers.
+/// The number of functions in the table before those of two integers.
 const FUNCTIONS: usize = 46;
 
-/// The function at a place of the table, where there is one.
+/// Returns the function at a place of the table, counted from 0, or `None` after its end.
 fn at(table: &[Primitive], place: usize) -> Option<Primitive>
     ensures { result ≡ slice_get table.now place }
 {
     table.get(place).copied()
 }
 
-/// The function, where it is not of two integers.
+/// Returns the function if it is not one of two integers, otherwise `None`.
 const fn function_of(found: Option<Primitive>) -> Option<Function>
     ensures { result ≡ function_of found }
 {
@@ -26,7 +26,7 @@ const fn function_of(found: Option<Primitive>) -> Option<Function>
     }
 }
 
-/// The function, where it is of two integers.
+/// Returns the function if it is one of two integers, otherwise `None`.
 const fn arithmetic_of(found: Option<Primitive>) -> Option<Arithmetic>
     ensures { result ≡ arithmetic_of found }
 {
@@ -42,7 +42,7 @@ impl Function {
     ghost use Rattle.prims_table.specs.Numbers.{function_number};
     ghost use Rattle.prims_table.specs.declared.prim.Function.{Function as AnyFunction};
 
-    /// The number of the function, from 1 to 46.
+    /// Returns the number of the function, from 1 to 46.
     pub const fn number(self) -> u8
         ensures { result ≡ function_number self }
     {
@@ -59,7 +59,7 @@ impl Function {
         }
     }
 
-    /// The function of this number, none where there is none.
+    /// Returns the function with this number, or `None` if there is none.
     pub fn numbered(number: u8) -> Option<Function>
         ensures { (f : AnyFunction) → (result ≡ Some f) ↔ (function_number f ≡ number) }
     {
@@ -73,14 +73,14 @@ impl Arithmetic {
     ghost use Rattle.prims_table.specs.Numbers.{arithmetic_number};
     ghost use Rattle.prims_table.specs.declared.prim.Arithmetic.{Arithmetic as AnyArithmetic};
 
-    /// The number of the function, from 1 to 10.
+    /// Returns the number of the function, from 1 to 10.
     pub const fn number(self) -> u8
         ensures { result ≡ arithmetic_number self }
     {
         self as u8
     }
 
-    /// The function of this number, none where there is none.
+    /// Returns the function of two integers with this number, or `None` if there is none.
     pub fn numbered(number: u8) -> Option<Arithmetic>
         ensures { (a : AnyArithmetic) → (result ≡ Some a) ↔ (arithmetic_number a ≡ number) }
     {

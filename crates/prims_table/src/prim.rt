@@ -1,39 +1,39 @@
-//! Which functions there are.
+//! The functions that match specifications may call.
 
-/// A function of match specifications (ERTS User's Guide, "Match Specifications in Erlang", and the functions of the
-/// same names in the Erlang Reference Manual, "Expressions", and module erlang).
+/// A function of match specifications (ERTS User's Guide, "Match Specifications in Erlang"). The functions are those of
+/// the same names in the Erlang Reference Manual, "Expressions", and module erlang.
 #[derive(Clone, Copy, Debug, PartialEq, Eq)]
 pub enum Primitive {
-    /// Of two integers.
+    /// A function of two integers.
     Arithmetic(Arithmetic),
-    /// Any other.
+    /// Any other function.
     Function(Function),
 }
 
-/// A function but those of two integers.
+/// A function other than those of two integers.
 #[derive(Clone, Copy, Debug, PartialEq, Eq)]
 pub enum Function {
-    /// What kind of term one is.
+    /// A test for the kind of a term.
     Test(Test),
-    /// Of truth values.
+    /// A function of truth values.
     Boolean(BooleanFunction),
-    /// How two terms stand in the order of terms.
+    /// A comparison in the order of terms.
     Comparison(Comparison),
-    /// One of two terms.
+    /// The greater or smaller of two terms.
     Extreme(Extreme),
-    /// Of one integer.
+    /// A function of one integer.
     Integer(IntegerFunction),
-    /// Of tuples.
+    /// A function of tuples.
     Tuple(TupleFunction),
-    /// Of lists.
+    /// A function of lists.
     List(ListFunction),
-    /// Of maps.
+    /// A function of maps.
     Map(MapFunction),
-    /// How large a term is.
+    /// The size of a term.
     Size(SizeFunction),
 }
 
-/// Tests of one term for its kind.
+/// Tests for the kind of a term.
 #[derive(Clone, Copy, Debug, PartialEq, Eq)]
 pub enum Test {
     /// `is_atom`
@@ -54,15 +54,15 @@ pub enum Test {
     IsBitstring = 9,
     /// `is_boolean`
     IsBoolean = 10,
-    /// `is_float`: of no term, as the four that follow.
+    /// `is_float`: false for all terms, like the four tests after it.
     IsFloat = 12,
-    /// `is_pid`
+    /// `is_pid`: false for all terms.
     IsPid = 13,
-    /// `is_port`
+    /// `is_port`: false for all terms.
     IsPort = 14,
-    /// `is_reference`
+    /// `is_reference`: false for all terms.
     IsReference = 15,
-    /// `is_function`
+    /// `is_function`: false for all terms.
     IsFunction = 16,
 }
 
@@ -75,7 +75,7 @@ pub enum BooleanFunction {
     And = 18,
     /// `or`, of one or more arguments.
     Or = 19,
-    /// `xor`, of two.
+    /// `xor`, of two arguments.
     Xor = 20,
 }
 
@@ -100,7 +100,7 @@ pub enum Comparison {
     Unequal = 44,
 }
 
-/// Which of two terms is given.
+/// The greater or smaller of two terms.
 #[derive(Clone, Copy, Debug, PartialEq, Eq)]
 pub enum Extreme {
     /// `max`
@@ -120,7 +120,7 @@ pub enum IntegerFunction {
     Trunc = 33,
     /// `+`: the integer itself.
     Plus = 34,
-    /// `-`
+    /// `-`: the negated integer.
     Negate = 35,
     /// `bnot`
     Bnot = 36,
@@ -154,20 +154,21 @@ pub enum Arithmetic {
 /// Functions of tuples.
 #[derive(Clone, Copy, Debug, PartialEq, Eq)]
 pub enum TupleFunction {
-    /// `is_record` of a term, a name and a size: a tuple of that size whose first element is the name.
+    /// `is_record` of a term, a name and a size: whether the term is a tuple of that size whose first element is the
+    /// name.
     IsRecord = 11,
-    /// `element` of a place, from 1, and a tuple.
+    /// `element` of a place, counted from 1, and a tuple.
     Element = 22,
 }
 
 /// Functions of lists.
 #[derive(Clone, Copy, Debug, PartialEq, Eq)]
 pub enum ListFunction {
-    /// `hd`
+    /// `hd`: the first element.
     Hd = 23,
-    /// `tl`
+    /// `tl`: what follows the first element.
     Tl = 24,
-    /// `length`, of a proper list.
+    /// `length` of a proper list.
     Length = 25,
 }
 
@@ -178,19 +179,19 @@ pub enum MapFunction {
     IsMapKey = 7,
     /// `map_get` of a key and a map.
     MapGet = 31,
-    /// `map_size`
+    /// `map_size`: the number of pairs.
     MapSize = 30,
 }
 
-/// How large a term is.
+/// The size of a term.
 #[derive(Clone, Copy, Debug, PartialEq, Eq)]
 pub enum SizeFunction {
-    /// `size`: a tuple's elements or a binary's bytes.
+    /// `size`: the number of elements of a tuple or of bytes of a binary.
     Size = 26,
-    /// `tuple_size`
+    /// `tuple_size`: the number of elements.
     TupleSize = 27,
-    /// `byte_size`
+    /// `byte_size`: the number of bytes of a binary.
     ByteSize = 28,
-    /// `bit_size`: 8 for each byte.
+    /// `bit_size`: 8 times the number of bytes of a binary.
     BitSize = 29,
 }

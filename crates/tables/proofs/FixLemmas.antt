@@ -26,12 +26,12 @@ use Rattle.tables.specs.Calls.{is_granted, IsGranted}
 use Rattle.tables.specs.Fixing.{act_of_change}
 use Rattle.tables.proofs.TurnLemmas.{count_own, met, turned_right, turned_front, surely_done}
 
--- turns at the parts below one, and none at the others
+-- turns at the parts below a number, and none at the others
 pub record TurnedBelow (h : Home) (act : Act) (part : ℕ) (v w : Views) : Type 0 where
   pub below : (k : ℕ) → k < part → TurnedAt h (v k) act (Some (Replied Nothing)) (w k)
   pub above : (k : ℕ) → part ≤ k → w k ≡ v k
 
--- what a count allows is replied so
+-- a change that a count allows is answered with nothing
 pub granted_said : (o : Settings) (s : PartState) (n : ℕ) (c : Change) → is_granted (act_of_change c) (fixes_of s n) ≡ true
     → reply_of o s n (act_of_change c) ≡ Replied Nothing
 unfolding reply_of
@@ -48,7 +48,7 @@ granted_turn h old new c answer session granted t =
     let counted : fixes_of (state_after o (old ++ t.between)) h.number ≡ fix_count h.number old = counts_of o (old ++ t.between) h.number (turned_front h old new (act_of_change c) (Some answer) t) session ∙ count_own h.number old t.between t.others.others in
     turned_right h old new (act_of_change c) answer t ∙ granted_said o (state_after o (old ++ t.between)) h.number c (ap (is_granted (act_of_change c)) counted ∙ granted)
 
--- one part more
+-- a change that was made at some parts is made at one more
 pub turned_more : (h : Home) (c : Change) (part : ℕ) (answer : Answer) (v w x : Views) → h.number < (settings_of h.options).sessions
     → is_granted (act_of_change c) (fix_count h.number (v part)) ≡ true
     → TurnedBelow h (act_of_change c) part v w → Turned h part (act_of_change c) (Some answer) w x
@@ -63,7 +63,7 @@ turned_more h c part answer v w x session granted before t =
       above = λ k more. t.rest k (omega (arith, more)) ∙ before.above k (omega (arith, more));
     }
 
--- a change that each count allows is made
+-- a change that each count allows is made, not refused
 pub change_done : {A : Type 0} (h : Home) (c : Change) (part : ℕ) (before now later : Views → Type 0) (result : Result (Reply A) Fault)
     → h.number < (settings_of h.options).sessions → part < h.options.parts → ∥ ((v : Views) × before v) ∥₁
     → ((v : Views) → before v → IsGranted h (act_of_change c) v)
@@ -78,7 +78,7 @@ change_done h c part before now later result session inside seen granted below t
     let here : TurnedAt h (b.0 part) (act_of_change c) (Some (Refused refusal)) (x part) = subst (λ (old : History). TurnedAt h old (act_of_change c) (Some (Refused refusal)) (x part)) (b.3.above part (omega arith)) t.here in
     false≢true (sym (ap is_refused (granted_turn h (b.0 part) (x part) c (Refused refusal) session (granted b.0 b.1 part inside) here))))
 
--- and then it is made at one part more
+-- a change that each count allows is made at one more part
 pub change_step : (h : Home) (c : Change) (part : ℕ) (before now later : Views → Type 0) (answer : Answer)
     → h.number < (settings_of h.options).sessions → part < h.options.parts
     → ((v : Views) → before v → IsGranted h (act_of_change c) v)
@@ -90,7 +90,7 @@ change_step h c part before now later answer session inside granted below turn =
     let x = turn w.0 w.1 in
     (x.0, x.1, turned_more h c part answer v w.0 x.0 session (granted v b part inside) w.2 x.2)
 
--- no change takes memory
+-- no change allocates
 pub change_sure : (c : Change) → takes_no_memory (act_of_change c) ≡ true
 change_sure change.Fix = refl
 change_sure change.Unfix = refl
@@ -98,7 +98,7 @@ change_sure change.Release = refl
 
 -- ---- a change at one part
 
--- a change that the session's count there allows is made
+-- a change that the session's count at a part allows is made there
 pub change_made : {A : Type 0} (h : Home) (c : Change) (part : ℕ) (now later : Views → Type 0) (result : Result (Reply A) Fault)
     → h.number < (settings_of h.options).sessions
     → ∥ ((v : Views) × now v × IsTrue (is_granted (act_of_change c) (fix_count h.number (v part)))) ∥₁
@@ -123,7 +123,7 @@ only_nothing o s n change.Unfix said is = of (nat_lt 0 (fixes_of s n)) is
     of false e = cc
 only_nothing o s n change.Release said is = cc
 
--- what a change replies is nothing
+-- a change that was not refused answers with nothing
 pub change_said : (h : Home) (c : Change) (part : ℕ) (said : Said) (now later : Views → Type 0)
     → Follows now later (Turned h part (act_of_change c) (Some (Replied said)))
     → Follows now later (Turned h part (act_of_change c) (Some (Replied Nothing)))

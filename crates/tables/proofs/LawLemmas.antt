@@ -1,4 +1,4 @@
--- What a session has put in is found by it.
+-- A session finds what it has inserted.
 use Rattle.std.proofs.Common.{◌≡◌, ◌++◌, List, [], ◌∷◌, fold, refl, ap, sym, subst, ◌∙◌, arith, All, Some}
 use Rattle.std.specs.List.{Contains, list_any}
 use Rattle.std.proofs.lemmas.List.Elements.{All-head, All-tail, Contains-append_right}
@@ -28,7 +28,7 @@ use Rattle.tables.proofs.TurnLemmas.{turned_right, turned_front}
 alone : (t : Datum) → Contains (t ∷ []) t
 alone t = (0, omega arith, refl)
 
--- an object that was put in is among those of its key
+-- an object that was inserted is among those of its key
 with_there : (k : TableKind) (os : List Datum) (t : Datum) → Contains (objects_with k os t) t
 with_there kind.Set os t = alone t
 with_there kind.OrderedSet os t = alone t
@@ -40,14 +40,14 @@ with_there kind.DuplicateBag os t = Contains-append_right os (t ∷ []) t (alone
 inserted : (o : Settings) (t : Datum) (os : List Datum) → Contains (written o (key_of o t) os (Insert t) (Replied Nothing)) t
 inserted o t os = rw (same_from (key_of o t) (key_of o t) refl) (with_there o.kind os t)
 
--- it stays among them where each entry leaves it
+-- an object stays among those of its key if each entry leaves it
 stays : (o : Settings) (t : Datum) (es : History) (os : List Datum) → All (Leaves o t) es → Contains os t
     → Contains (fold (λ os (e : Entry). written o (key_of o t) os e.act e.answer) os es) t
 stays o t [] os leave there = there
 stays o t (e ∷ es) os leave there =
     stays o t es (written o (key_of o t) os e.act e.answer) (All-tail (Leaves o t) e es leave) (All-head (Leaves o t) e es leave os there)
 
--- what a look-up finds is the content behind what its session saw and the entries of others
+-- a look-up finds the content after what its session saw and the entries of others
 pub looked_up : (h : Home) (k : Datum) (old new : History) (found : List Datum) (turn : TurnedAt h old (Lookup k) (Some (Replied (Objects found))) new)
     → found ≡ content (settings_of h.options) k (old ++ turn.between)
 unfolding reply_of

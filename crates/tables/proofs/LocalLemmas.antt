@@ -19,7 +19,7 @@ use Rattle.tables.specs.Options.{settings_of, IsOpenable}
 use Rattle.tables.specs.Turns.{Views, Turned, Follows}
 use Rattle.tables.specs.Local.{AreAfter, local_home}
 
--- an element of a list with one element replaced: the new one at its place, else an old one
+-- an element of a list in which one element was replaced: the new one at its position, else an old one
 pub got_set : {P : Type 0} (xs : List P) (i k : ℕ) (y p : P) → slice_get (slice_set xs i y) k ≡ Some p
     → ((k ≡ i) × (p ≡ y)) ⊎ ((k ≢ i) × (slice_get xs k ≡ Some p))
 got_set xs i k y p got =
@@ -29,7 +29,7 @@ got_set xs i k y p got =
     (λ same. let e : k ≡ i = eqb-true k i same in inl (e, sym read ∙ ap (λ j. get_or (slice_set xs i y) j p) e ∙ get_or-set_same xs i y p (omega (arith, within, e, length-set xs i y))))
     (λ other. let e : k ≢ i = eqb-false k i other in inr (e, slice_get-get_or xs k p (omega (arith, within, length-set xs i y)) ∙ ap Some (sym (get_or-set_other xs i k y p e) ∙ read)))
 
--- a history that grows at one part
+-- histories of which one grows
 abbrev pub grown_at : Views → ℕ → History → Views
 grown_at v i es = λ k. if k == i then v k ++ es else v k
 
@@ -47,13 +47,13 @@ set_after IsAfter parts i new v es before here = λ k p got. go k p (got_set par
     go k p (inl (place, same)) = subst (λ (q : _). IsAfter q (grown_at v i es k)) (sym same) (subst (λ (j : ℕ). IsAfter new (grown_at v i es j)) (sym place) (subst (IsAfter new) (sym (grown_here v i es)) here))
     go k p (inr (apart, got)) = subst (IsAfter p) (sym (grown_there v i k es apart)) (before k p got)
 
--- what a part has in common with the others
+-- each part has the settings that all parts share
 pub settings_there : {P : Type 0} (settings : P → Settings) (o : Settings) (parts : List P) (i : ℕ) (p : P)
     → slice_get parts i ≡ Some p → All (λ p. settings p ≡ o) parts → settings p ≡ o
 settings_there settings o parts i p there all =
     ap settings (sym (get_or_from_slice_get parts i p p there)) ∙ All-get_or (λ p. settings p ≡ o) parts i p (slice_get_within parts i p there) all
 
--- a turn at a part
+-- an operation at a part is a turn there
 pub local_turn : {P : Type 0} (settings : P → Settings) (IsAfter : P → History → Type 0)
     → ((p : P) (log : History) → IsAfter p log → IsLegal (settings p) log)
     → (o : Options) (number table : ℕ) (parts : List P) (i : ℕ) (old new : P) (act : Act) (answer : Option Answer)
@@ -77,12 +77,12 @@ local_turn settings IsAfter legal o number table parts i old new act answer ther
       },
     )
 
--- what holds of all parts holds of one
+-- what holds of all parts holds of each
 pub all_got : {P : Type 0} (Q : P → Type 0) (parts : List P) (k : ℕ) (p : P) → All Q parts → slice_get parts k ≡ Some p → Q p
 all_got Q parts k p all got =
     subst Q (get_or_from_slice_get parts k p p got) (All-get_or Q parts k p (slice_get_within parts k p got) all)
 
--- what is said beside each part holds where there is one
+-- what all parts imply holds if there is a part
 pub all_said : {P : Type 0} (S : Type 0) (Q R : P → Type 0) (parts : List P) → 0 < length parts → All (λ p. S × Q p × R p) parts → S
 all_said S Q R [] some all = absurd (omega (arith, some))
 all_said S Q R (p ∷ ps) some all = (All-head (λ p. S × Q p × R p) p ps all).0
@@ -92,7 +92,7 @@ pub one_part : (ordered : Bool) (parts : ℕ) → (ordered && not (parts == 1)) 
 one_part true parts whole is = by_test (parts == 1) (parts ≡ 1) (eqb-true parts 1) (λ other. absurd (false≢true (sym whole ∙ ap not other)))
 one_part false parts whole is = absurd (false≢true is)
 
--- options that parts were made for are those of a table
+-- the options with which parts were made are those of a table
 pub openable : {P : Type 0} (serves : TableKind → Bool) (settings : P → Settings) (IsAfter : P → History → Type 0) (o : Options) (parts : List P)
     → 0 < o.parts → length parts ≡ o.parts → (is_ordered o.kind && not (o.parts == 1)) ≡ false
     → All (λ p. IsServed serves (settings_of o) × (settings p ≡ settings_of o) × IsAfter p []) parts → IsOpenable serves o

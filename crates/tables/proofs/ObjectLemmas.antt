@@ -1,4 +1,4 @@
--- The objects of a table, gathered part by part.
+-- The objects of a table, collected part by part.
 use Rattle.std.proofs.Common.{◌≡◌, ℕ, zero, suc, ◌+◌, List, ◌++◌, ap, sym, ◌∙◌, Some, All, arith, slice_get, flat_map, append_assoc}
 use Rattle.std.specs.List.{range_with_len}
 use Rattle.std.specs.Coded.{codes}
@@ -24,12 +24,12 @@ range_more f a (suc n) =
     ap (λ m. flat_map f (range_with_len a m)) next ∙ ap (λ xs. f a ++ xs) (range_more f (a + 1) n) ∙ sym (append_assoc (f a) (flat_map f (range_with_len (a + 1) n)) (f (a + 1 + n)))
     ∙ ap (λ k. flat_map f (range_with_len a (suc n)) ++ f k) (omega arith)
 
--- what was gathered of the parts so far
+-- what was collected from the first n parts
 abbrev pub Gathered : {P : Type 0} → (P → History → Type 0) → Options → List P → ℕ → List Datum → Type 0
 Gathered IsAfter o parts n got =
     (v : Views) → AreAfter IsAfter parts v → got ≡ flat_map (part_objects o v) (range_with_len 0 n)
 
--- one part more
+-- one more part is collected
 pub gathered_more : {P : Type 0} (settings : P → Settings) (IsAfter : P → History → Type 0) (o : Options) (parts : List P) (i : ℕ) (p : P) (got more : List Datum)
     → slice_get parts i ≡ Some p → ∥ (All (λ p. settings p ≡ settings_of o) parts) ∥₁
     → ((log : History) → IsAfter p log → more ≡ walked_objects (settings p) (state_after (settings p) log))

@@ -1,4 +1,4 @@
--- Passes that are dealt to the sessions of a table.
+-- Passes that are distributed to the sessions of a table.
 use Rattle.std.proofs.Common.{ℕ, zero, suc, ◌+◌, ◌≡◌, ◌≢◌, ◌<◌, ◌≤◌, ◌⊎◌, inl, inr, ◌++◌, List, [], ◌∷◌, length, map, refl, ap, sym, ◌∙◌, arith, Some, slice_get, slice_set}
 use Rattle.std.proofs.lemmas.Bool.{false≢true}
 use Rattle.std.proofs.lemmas.List.{map-append, length-append}
@@ -37,7 +37,7 @@ gates_back : (o : Settings) (n : ℕ) (gates : List GateId) → map (λ (pass : 
 gates_back o n [] = refl
 gates_back o n (gate ∷ gates) = ap (λ (gs : List GateId). gate ∷ gs) (gates_back o n gates)
 
--- passes that are numbered from 0 on, and the last of them
+-- passes numbered from 0, and the last of them
 module _ (f : ℕ → Ticket) (n m : ℕ) (passes rest : List Ticket) (next : n ≡ m + 1) (are : passes ≡ map f (range_with_len 0 n)) where
   more : passes ≡ map f (range_with_len 0 m) ++ f m ∷ []
   more = are ∙ ap (λ (k : ℕ). map f (range_with_len 0 k)) next ∙ numbered_more f m
@@ -50,14 +50,14 @@ module _ (f : ℕ → Ticket) (n m : ℕ) (passes rest : List Ticket) (next : n 
 
 -- ---- sessions
 
--- the sessions from a number on have their pass at the next gate too
+-- the sessions from number n on have their pass at the next gate too
 abbrev pub AreDealtFrom : {P A : Type 0} → Settings → List GateId → GateId → ℕ → List (Session P A) → Type 0
 AreDealtFrom o gates gate n sessions =
     (k : ℕ) (s : Session _ _) → slice_get sessions k ≡ Some s
     → (s.number ≡ k) × (k < n → s.passes.items ≡ first_passes o gates k) × (n ≤ k → s.passes.items ≡ first_passes o (gates ++ gate ∷ []) k)
 
 module _ {P A : Type 0} (o : Settings) where
-  -- one session more, without passes
+  -- one more session, without passes
   pub session_more : (sessions : List (Session P A)) (n : ℕ) (new : Session P A) → length sessions ≡ n → new.number ≡ n → new.passes.items ≡ []
       → AreDealt o [] sessions → AreDealt o [] (sessions ++ new ∷ [])
   session_more sessions n new count number none dealt = λ k s got. of k s (got_last sessions new s k got)
@@ -97,7 +97,7 @@ module _ {P A : Type 0} (o : Settings) where
           (λ above. (dealt k s got).2 (omega (arith, above, apart, next))),
         )
 
--- sessions with a pass at each gate were opened with the table
+-- sessions with a pass at each gate are sessions that were opened with the table
 pub all_opened : {P A : Type 0} (o : Options) (gates : List GateId) (sessions : List (Session P A)) → 0 < o.parts → length gates ≡ o.parts
     → length sessions ≡ o.sessions → AreDealt (settings_of o) gates sessions → AreOpened o gates sessions
 all_opened o gates sessions some count sessions_count dealt = record {

@@ -1,4 +1,4 @@
--- What operations are answered, whatever the state.
+-- Properties of replies that hold in every state.
 use Rattle.std.proofs.Common.{◌≡◌, ℕ, refl, true, false}
 use Rattle.term_core.specs.Datum.{Datum}
 use Rattle.part_core.specs.declared.settings.Settings.{Settings}

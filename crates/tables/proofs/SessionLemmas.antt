@@ -34,7 +34,7 @@ module _ (o : Options) (gates : List GateId) (number : ℕ) (passes : List Ticke
       of (inr (past, none)) = absurd (omega (arith, past, pass_count, opened.count, slice_get_within gates part gate there))
 
   module _ (new : List Ticket) (part : ℕ) (act : Act) (answer : Option Answer) (t : IsTurnAt passes part act answer new) where
-    -- a turn leaves the session opened
+    -- a session is still opened after a turn
     pub opened_still : IsOpened o gates number new
     opened_still = record {
       some = opened.some;
@@ -52,7 +52,7 @@ module _ (o : Options) (gates : List GateId) (number : ℕ) (passes : List Ticke
             (ap (λ (p : Ticket). p.settings) same ∙ (opened.each part t.pass t.there).0, ap (λ (p : Ticket). p.number) same ∙ (opened.each part t.pass t.there).1)
         of k pass (inr (apart, got)) = opened.each k pass got
 
-    -- and it is a turn of the session at the part
+    -- the turn with a pass is a turn of the session at the part
     pub turned_at : (table : ℕ) → Follows (Sees passes) (Sees new) (Turned (session_home o gates number table) part act answer)
     turned_at table = λ v sees.
         let between : History = t.turn.between in
@@ -77,7 +77,7 @@ module _ (o : Options) (gates : List GateId) (number : ℕ) (passes : List Ticke
 
 -- ---- sessions that meet
 
--- of what two sessions have seen of the first parts, one begins with the other
+-- of what two sessions have seen of the first n parts, one begins with the other
 abbrev pub HaveMet : List Ticket → List Ticket → ℕ → Type 0
 HaveMet ones others n =
     (part : ℕ) (v w : Views) → part < n → Sees ones v → Sees others w → GoesOn (v part) (w part) ⊎ GoesOn (w part) (v part)

@@ -1,4 +1,4 @@
--- What a turn was answered, told from the history that it leaves.
+-- The answer of a turn, derived from the history that it leaves.
 use Rattle.std.proofs.Common.{arith, length, fold, not, ◌&&◌, ◌==◌, if◌then◌else◌, ◌≡◌, ◌≢◌, ℕ, ◌++◌, [], ◌∷◌, refl, ap, sym, subst, ◌∙◌, Bool, true, false, Result, Ok, Err, Option, option_map, Some, None, IsTrue, IfErr}
 use Rattle.std.proofs.Props.{props}
 use Rattle.std.proofs.Math.Logic.{∥∥₁_elim}
@@ -23,7 +23,7 @@ use Rattle.gate.specs.Views.{own}
 use Rattle.tables.specs.Options.{settings_of}
 use Rattle.tables.specs.Turns.{Home, Views, TurnedAt, Turned, Follows}
 
--- the state before a turn, behind the entries of others
+-- the state before a turn, after the entries of others
 abbrev pub met : (h : Home) (old new : History) (act : Act) (answer : Option Answer) → TurnedAt h old act answer new → PartState
 met h old new act answer t = state_after (settings_of h.options) (old ++ t.between)
 
@@ -34,19 +34,19 @@ turned_right h old new act answer t =
     let legal : IsLegal (settings_of h.options) ((old ++ t.between) ++ (record { session = h.number; act = act; answer = answer }) ∷ []) = subst (IsLegal (settings_of h.options)) t.grown t.legal in
     (legal_rest_from (settings_of h.options) (opening (settings_of h.options)) (old ++ t.between) _ legal).0.answer
 
--- what was seen before a turn, and the entries of others, are legal
+-- the history before a turn, with the entries of others, is legal
 pub turned_front : (h : Home) (old new : History) (act : Act) (answer : Option Answer) (t : TurnedAt h old act answer new)
     → IsLegal (settings_of h.options) (old ++ t.between)
 turned_front h old new act answer t =
     legal_front_from (settings_of h.options) (opening (settings_of h.options)) (old ++ t.between) _ (subst (IsLegal (settings_of h.options)) t.grown t.legal)
 
--- a refusal can't be what a turn was answered where the operation is refused in no state
+-- a turn has no refusal as its answer if the operation is refused in no state
 pub no_refusal : (h : Home) (old new : History) (act : Act) (refusal : Refusal) → TurnedAt h old act (Some (Refused refusal)) new
     → ((s : PartState) → is_refused (reply_of (settings_of h.options) s h.number act) ≡ false) → ⊥
 no_refusal h old new act refusal t never =
     false≢true (sym (ap is_refused (turned_right h old new act (Refused refusal) t) ∙ never (met h old new act (Some (Refused refusal)) t)))
 
--- such an operation is refused for want of memory alone
+-- an operation that is refused in no state can only run out of memory
 pub only_memory : (h : Home) (part : ℕ) (act : Act) (before now : Views → Type 0) (f : Fault)
     → Follows before now (Turned h part act (option_map Refused (refusal_of f)))
     → ((s : PartState) → is_refused (reply_of (settings_of h.options) s h.number act) ≡ false)
@@ -65,7 +65,7 @@ pub answered_so : (test : Answer → Bool) (h : Home) (part : ℕ) (act : Act) (
 answered_so test h part act answer before now seen follows holds =
     ∥∥₁_elim seen (hlevel props) (λ s. ap test (turned_right h _ _ act answer (follows s.0 s.1).2.here) ∙ holds (met h _ _ act (Some answer) (follows s.0 s.1).2.here))
 
--- what takes no memory, and is refused in no state, is done
+-- an operation that does not allocate, and is refused in no state, is done
 pub surely_done : (h : Home) (part : ℕ) (act : Act) (before now : Views → Type 0) {A : Type 0} (result : Result (Reply A) Fault)
     → ∥ ((v : Views) × before v) ∥₁ → Follows before now (Turned h part act (answer_in result))
     → IfErr result (λ f. f ≢ fault.Memory)
@@ -79,7 +79,7 @@ surely_done h part act before now (Err fault.NotFixed) seen follows sure never =
 surely_done h part act before now (Err fault.BadKey) seen follows sure never = absurd (∥∥₁_elim seen (hlevel props) (λ s. never s.0 _ BadKey s.1 (follows s.0 s.1).2))
 surely_done h part act before now (Err fault.CursorOutside) seen follows sure never = absurd (∥∥₁_elim seen (hlevel props) (λ s. never s.0 _ CursorOutside s.1 (follows s.0 s.1).2))
 
--- the same, of an operation that is refused in no state
+-- an operation that does not allocate, and is refused in no state, has a reply
 pub never_refused : (h : Home) (part : ℕ) (act : Act) (before now : Views → Type 0) {A : Type 0} (result : Result (Reply A) Fault)
     → ∥ ((v : Views) × before v) ∥₁ → Follows before now (Turned h part act (answer_in result))
     → IfErr result (λ f. f ≢ fault.Memory)
@@ -88,7 +88,7 @@ pub never_refused : (h : Home) (part : ℕ) (act : Act) (before now : Views → 
 never_refused h part act before now result seen follows sure never =
     surely_done h part act before now result seen follows sure (λ v w refusal b t. no_refusal h _ _ act refusal t.here never)
 
--- what is replied in every state was answered
+-- an answer that is the reply in every state is a turn's answer
 pub answered_as : (h : Home) (part : ℕ) (act : Act) (answer wanted : Answer) (before now : Views → Type 0)
     → Follows before now (Turned h part act (Some answer))
     → ((s : PartState) → reply_of (settings_of h.options) s h.number act ≡ wanted)
@@ -97,7 +97,7 @@ answered_as h part act answer wanted before now follows said = λ v b.
     let t = (follows v b).2 in
     ((follows v b).0, (follows v b).1, subst (λ (a : Answer). Turned h part act (Some a) v (follows v b).0) (turned_right h _ _ act answer t.here ∙ said (met h _ _ act (Some answer) t.here)) t)
 
--- entries of other sessions leave a session's count
+-- entries of other sessions don't change a session's count of fixes
 pub counts_own : (n : ℕ) (es : History) (count : ℕ) → own n es ≡ []
     → fold (λ count e. if e.session == n && not (is_refused e.answer) then fixes_after e.act count else count) count es ≡ count
 counts_own n [] count none = refl
@@ -116,13 +116,13 @@ count_own n old between none = fold-append _ 0 old between ∙ counts_own n betw
 entry : Home → Act → Answer → Entry
 entry h act answer = record { session = h.number; act = act; answer = answer }
 
--- nothing stands between what was seen and the turn
+-- if the session is alone, no entries are between what was seen and the turn
 grown_alone : (h : Home) (old new : History) (act : Act) (answer : Answer) → IsTrue h.alone → TurnedAt h old act (Some answer) new → new ≡ old ++ entry h act answer ∷ []
 unfolding entry
 grown_alone h old new act answer alone t =
     t.grown ∙ ap (λ (es : History). (old ++ es) ++ entry h act answer ∷ []) (t.others.alone alone) ∙ ap (λ (es : History). es ++ entry h act answer ∷ []) (append-nil old)
 
--- the answer is the state's, and the state after it is that of the history that follows
+-- if the session is alone, the answer is that of its state, and the next state is the one after the turn
 pub turned_alone : (h : Home) (old new : History) (act : Act) (answer : Answer) → IsTrue h.alone → TurnedAt h old act (Some answer) new → (answer ≡ reply_of (settings_of h.options) (state_after (settings_of h.options) old) h.number act) × (after (settings_of h.options) (state_after (settings_of h.options) old) h.number act ≡ state_after (settings_of h.options) new)
 unfolding entry
 turned_alone h old new act answer alone t =

@@ -1,4 +1,4 @@
--- What the calls of a session make of what it sees of a table.
+-- What the methods of a session do to what it sees of a table.
 use Rattle.std.specs.Prelude.{ℕ, ◌≡◌, ◌<◌, nat_lt, Bool, true, false, Option, None, IsTrue, IsFalse}
 use Rattle.term_core.specs.Datum.{Datum}
 use Rattle.part_core.specs.declared.fault.Fault.{Fault}
@@ -13,38 +13,38 @@ use Rattle.part_core.specs.Legal.{fix_count}
 use Rattle.tables.specs.Options.{settings_of}
 use Rattle.tables.specs.Turns.{Home, Views, TurnedByKey}
 
--- an object's call that was answered: one turn at the part of its key
+-- a call with an object that was answered, or ran out of memory: one turn at the part of the object's key
 abbrev pub TurnedByObject : Home → Datum → Act → Option Answer → Views → Views → Type 0
 TurnedByObject h t act answer v w =
     IsTrue (is_object (settings_of h.options) t) × TurnedByKey h (key_of (settings_of h.options) t) act answer v w
 
--- an object's call that was refused: for want of memory, with no entry; or since the term is no object, with no turn
+-- a call with an object that failed: it ran out of memory, with no entry; or the term is no object, with no turn
 abbrev pub RefusedByObject : Home → Datum → Act → Fault → Views → Views → Type 0
 RefusedByObject h t act fault.Memory v w = TurnedByObject h t act None v w
 RefusedByObject h t act fault.TooSmall v w = IsFalse (is_object (settings_of h.options) t) × (w ≡ v)
 RefusedByObject h t act other v w = ⊥
 
--- a count of fixes can rise, and can fall
+-- a count of fixes can be increased by Fix or decreased by Unfix
 abbrev pub is_granted : Act → ℕ → Bool
 is_granted Fix count = nat_lt count most_fixes
 is_granted Unfix count = nat_lt 0 count
 is_granted act count = true
 
--- the session's count at each part can
+-- the session's count at each part allows the operation
 abbrev pub IsGranted : Home → Act → Views → Type 0
 IsGranted h act v =
     (part : ℕ) → part < h.options.parts → IsTrue (is_granted act (fix_count h.number (v part)))
 
--- the session's count at some part can't
+-- the session's count at some part does not allow the operation
 abbrev pub IsNotGranted : Home → Act → Views → Type 0
 IsNotGranted h act v =
     (part : ℕ) × (part < h.options.parts) × IsFalse (is_granted act (fix_count h.number (v part)))
 
--- so there is no turn
+-- some count does not allow the operation, so there is no turn
 abbrev pub RefusedEach : Home → Act → Views → Views → Type 0
 RefusedEach h act v w = IsNotGranted h act v × (w ≡ v)
 
--- which replies an operation can have
+-- whether an answer is a reply of yes or no, and whether it is one of objects
 abbrev pub is_flag : Answer → Bool
 is_flag (Replied (Flag b)) = true
 is_flag answer = false

@@ -1,4 +1,4 @@
--- What becomes of a session's counts of fixes.
+-- Changes of a session's counts of fixes.
 use Rattle.part_core.specs.Acts.{Act}
 use Rattle.part_core.specs.Acts.Act.{Fix, Unfix, Release}
 use Rattle.tables.specs.declared.fixing.Change.{Change}

@@ -14,19 +14,19 @@ use Rattle.tables.specs.Options.{settings_of}
 use Rattle.tables.specs.Turns.{Home, Views, TurnedByKey}
 use Rattle.tables.specs.Calls.{TurnedByObject}
 
--- an entry leaves an object among those of its key
+-- an entry leaves an object among those of its key if it was there
 abbrev pub Leaves : Settings → Datum → Entry → Type 0
 Leaves o t e = (os : List Datum) → Contains os t → Contains (written o (key_of o t) os e.act e.answer) t
 
--- What a look-up finds of a key behind a history and entries of others: the content there. An object that was put in
--- last of all that the history has is among it, where each of these entries leaves it.
+-- What a look-up finds after a history and entries of other sessions: the content there. If the history ends with the
+-- insertion of an object, it is found if each of the entries of others leaves it.
 pub record IsSeen (h : Home) (t : Datum) (past : History) (found : List Datum) : Type 0 where
   pub between : History
   pub others : own h.number between ≡ []
   pub says : found ≡ content (settings_of h.options) (key_of (settings_of h.options) t) (past ++ between)
   pub there : All (Leaves (settings_of h.options) t) between → Contains found t
 
--- what a session has put in, it finds, unless others took it away meanwhile
+-- an object that a session has inserted is found by its look-up, unless others removed it in between
 abbrev pub InsertsAreSeen : Type 0
 InsertsAreSeen =
     (h : Home) (t : Datum) (v w x : Views) (found : List Datum)

@@ -13,11 +13,11 @@ use Rattle.tables.specs.Turns.{Home, Views}
 abbrev pub AreAfter : {P : Type 0} → (P → History → Type 0) → List P → Views → Type 0
 AreAfter IsAfter parts v = (k : ℕ) (p : _) → slice_get parts k ≡ Some p → IsAfter p (v k)
 
--- where a session of such a table is: alone with it
+-- the home of a session of such a table: it is alone with the table
 abbrev pub local_home : Options → ℕ → ℕ → Home
 local_home o number table = record { options = o; gates = []; number = number; table = table; alone = true }
 
--- the objects of a part, in the order of a walk
+-- the objects of a part, in walk order
 abbrev pub part_objects : Options → Views → ℕ → List Datum
 part_objects o v part = walked_objects (settings_of o) (state_after (settings_of o) (v part))
 

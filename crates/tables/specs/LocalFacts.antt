@@ -1,4 +1,4 @@
--- What an impl for tables on one thread owes.
+-- The facts that an impl of `Turns` for tables on one thread has to provide.
 use Rattle.std.specs.Prelude.{ℕ, ◌≡◌, ◌<◌, ◌≤◌, ◌⊎◌, Some, None, get_or, All, length, slice_get, List}
 use Rattle.std.proofs.lemmas.List.Elements.{All-get_or}
 use Rattle.std.proofs.Common.{ap, ◌∙◌, subst, sym, inl, inr, arith}

@@ -21,16 +21,16 @@ pub record AreOpened {P A : Type 0} (o : Options) (gates : List GateId) (session
   pub opened : AllOpened o gates sessions
   pub seen : (k : ℕ) (s : Session P A) → slice_get sessions k ≡ Some s → Sees s.passes.items (λ part. [])
 
--- the passes of a session at so many gates, which have seen nothing
+-- the passes of a session at the given gates, which have seen nothing
 abbrev pub first_passes : Settings → List GateId → ℕ → List Ticket
 first_passes o gates number = map (λ gate. first_ticket gate o number) gates
 
--- each session has its own number and its passes at so many gates
+-- each session has its own number and its passes at the given gates
 abbrev pub AreDealt : {P A : Type 0} → Settings → List GateId → List (Session P A) → Type 0
 AreDealt o gates sessions =
     (k : ℕ) (s : Session _ _) → slice_get sessions k ≡ Some s → (s.number ≡ k) × (s.passes.items ≡ first_passes o gates k)
 
--- options that so many parts fit: each number is in its range, they are as many, and an ordered set has one
+-- the options fit this number of parts: each number is in its range, they have this number of parts, and an ordered set has one
 pub record AreForParts (o : Options) (size : ℕ) : Type 0 where
   pub ranges : AreInRange (settings_of o)
   pub count : size ≡ o.parts

@@ -1,4 +1,4 @@
--- What an impl for sessions of a table with gates owes.
+-- The facts that an impl of `Turns` for sessions of a table with gates has to provide.
 use Rattle.std.specs.Prelude.{ℕ, ◌≡◌, ◌<◌, ◌≤◌, ◌⊎◌, Option, Some, None, [], length, get_or, slice_get, List}
 use Rattle.std.proofs.Common.{ap, subst, sym, inl, inr, arith}
 use Rattle.std.proofs.lemmas.Option.{slice_get_cases}
@@ -13,7 +13,7 @@ use Rattle.tables.specs.Options.{settings_of}
 use Rattle.tables.specs.Turns.{Views}
 use Rattle.tables.specs.Sessions.{Sees, IsOpened}
 
--- what the passes have seen
+-- the history that a pass has seen, empty if there is no pass
 log_of : Option Ticket → History
 log_of None = []
 log_of (Some pass) = pass.log

@@ -9,8 +9,8 @@ use Rattle.tables.specs.Turns.{Home, Views}
 abbrev pub Sees : List Ticket → Views → Type 0
 Sees passes v = (k : ℕ) (pass : Ticket) → slice_get passes k ≡ Some pass → v k ≡ pass.log
 
--- A session was opened with a table: for each part there are a gate and a pass, which was made with it for these
--- options and this session.
+-- A session was opened with a table: for each part there are a gate and a pass, which was made with that gate, these
+-- options and this session's number.
 pub record IsOpened (o : Options) (gates : List GateId) (number : ℕ) (passes : List Ticket) : Type 0 where
   pub some : 0 < o.parts
   pub count : length gates ≡ o.parts
@@ -19,6 +19,6 @@ pub record IsOpened (o : Options) (gates : List GateId) (number : ℕ) (passes :
   pub each : (k : ℕ) (pass : Ticket) → slice_get passes k ≡ Some pass
       → (pass.settings ≡ settings_of o) × (pass.number ≡ number)
 
--- where such a session is
+-- the home of such a session
 abbrev pub session_home : Options → List GateId → ℕ → ℕ → Home
 session_home o gates number table = record { options = o; gates = gates; number = number; table = table; alone = false }

@@ -1,4 +1,4 @@
--- What a session sees of a table, and what a turn at one part makes of it.
+-- What a session sees of a table, and how a turn at one part changes it.
 use Rattle.std.specs.Prelude.{ℕ, ◌≡◌, ◌≢◌, ◌<◌, Bool, IsTrue, Option, List, [], ◌++◌}
 use Rattle.term_core.specs.Datum.{Datum}
 use Rattle.part_core.specs.Settings.{part_of}
@@ -9,7 +9,7 @@ use Rattle.gate.specs.Views.{own, GateId}
 use Rattle.tables.specs.declared.options.Options.{Options}
 use Rattle.tables.specs.Options.{settings_of}
 
--- Where a session is: what its table was opened with, the table's gates, where it has any, the session's number, the
+-- The home of a session: the options of its table, the table's gates, if it has any, and the session's number; also the
 -- name by which what turns change is borrowed, and whether no other session can make a turn meanwhile.
 pub record Home : Type 0 where
   pub options : Options
@@ -22,20 +22,20 @@ pub record Home : Type 0 where
 abbrev pub Views : Type 0
 Views = ℕ → History
 
--- entries that may come between two turns of a session: none of its own, and none at all where it is alone
+-- entries that may come between two turns of a session: none of its own, and none at all if it is alone
 pub record IsBetween (h : Home) (log : History) : Type 0 where
   pub others : own h.number log ≡ []
   pub alone : IsTrue h.alone → log ≡ []
 
--- A turn, as a part's history tells it: behind what was seen stand entries of other sessions, and then the turn's, if
--- it was answered; for want of memory there is none. The whole is legal.
+-- A turn, in terms of the part's history: what was seen is followed by entries of other sessions, and then by the
+-- turn's entry. If the turn ran out of memory, it has no entry. The whole history is legal.
 pub record TurnedAt (h : Home) (old : History) (act : Act) (answer : Option Answer) (new : History) : Type 0 where
   pub between : History
   pub others : IsBetween h between
   pub grown : new ≡ (old ++ between) ++ entries_of h.number act answer
   pub legal : IsLegal (settings_of h.options) new
 
--- a turn at one part, the views of the others staying as they are
+-- a turn at one part, with the views of the other parts unchanged
 pub record Turned (h : Home) (part : ℕ) (act : Act) (answer : Option Answer) (v w : Views) : Type 0 where
   pub here : TurnedAt h (v part) act answer (w part)
   pub rest : (k : ℕ) → k ≢ part → w k ≡ v k
@@ -48,6 +48,6 @@ TurnedByKey h k act answer v w = Turned h (part_of (settings_of h.options) k) ac
 abbrev pub TurnedEach : Home → Act → Option Answer → Views → Views → Type 0
 TurnedEach h act answer v w = (part : ℕ) → part < h.options.parts → TurnedAt h (v part) act answer (w part)
 
--- whatever views were seen before, some are seen now that follow on them so
+-- for all views that were seen before, there are views seen now that are in the relation with them
 abbrev pub Follows : (Views → Type 0) → (Views → Type 0) → (Views → Views → Type 0) → Type 0
 Follows before now R = (v : Views) → before v → (w : Views) × now w × R v w

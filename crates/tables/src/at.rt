@@ -14,14 +14,14 @@ use part_core::{Fault, Part, PartOp, Reply};
 use std::alloc::Allocator;
 use std::sync::Wait;
 
-/// A session at a table, which may wait there while others make their turns.
+/// A session at a table, which may wait there while other sessions make their turns.
 #[derive(Drop)]
 pub struct At<'t, P: Part<A> + Drop, A: Allocator, R> {
     /// The table.
     pub table: &'t Table<P, A>,
     /// The session.
     pub session: &'t mut Session<P, A>,
-    /// By which it waits.
+    /// The runtime by which it waits.
     pub rt: &'t R,
 }
 

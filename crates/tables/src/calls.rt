@@ -1,4 +1,4 @@
-//! Calls at the part of one key.
+//! Methods for the part of one key.
 ghost use Rattle.std.specs.Prelude.{◌≡◌, ◌≢◌, ◌<◌, ◌%◌, Some, None, IsTrue, false, MatchOption, IfOk, IfErr};
 ghost use Rattle.term_core.specs.KeyHash.{key_hash};
 ghost use Rattle.part_core.specs.Settings.{is_object, key_of, part_of};
@@ -17,7 +17,7 @@ use part_core::{Fault, PartOp, Reply, key_in};
 use std::alloc::{AllocError, Allocator};
 use term_core::{Refused, Term};
 
-/// The part of a key among so many.
+/// Returns the number of a key's part, for a table of `parts` parts.
 pub fn part_of_key<A: Allocator>(key: &Term<A>, parts: u8) -> u8
     requires { 0 < parts }
     ensures part { result ≡ key_hash key.now % parts }
@@ -26,7 +26,7 @@ pub fn part_of_key<A: Allocator>(key: &Term<A>, parts: u8) -> u8
     (key.key_hash() % u64::from(parts)) as u8
 }
 
-/// The part of an object's key, none of a term that is no object.
+/// Returns the number of the part of an object's key, or `None` if the term is no object.
 fn part_of_object<A: Allocator, T: Turns<A>>(turns: &T, object: &Term<A>) -> Option<u8>
     requires { T.is_ready turns.now }
     ensures { MatchOption result (is_object (settings_of (T.home turns.now).options) object.now ≡ false)
@@ -41,7 +41,7 @@ fn part_of_object<A: Allocator, T: Turns<A>>(turns: &T, object: &Term<A>) -> Opt
     }
 }
 
-/// Does an operation at the part of a key.
+/// Performs an operation at the part of a key, and returns the part's reply or fault.
 fn turn_by_key<'a, A: Allocator, T: Turns<A>>(
     turns: &mut T,
     key: &Term<A>,
@@ -60,8 +60,8 @@ fn turn_by_key<'a, A: Allocator, T: Turns<A>>(
     turn_at(turns, part_of_key(key, parts), op)
 }
 
-/// Puts an object in, in a set in the place of the one with its key (ets:insert/2). A term that is no tuple with an
-/// element at the key's place is refused. What is refused is handed back.
+/// Inserts an object; in a set it replaces the one with its key (ets:insert/2). Fails if the term is not a tuple with
+/// an element at the key's position, or if an allocation fails. The error hands the object back.
 pub fn insert<A: Allocator, T: Turns<A>>(
     turns: &mut T,
     object: Term<A>,
@@ -88,7 +88,7 @@ pub fn insert<A: Allocator, T: Turns<A>>(
             drop(reply);
             Ok(())
         }
-        // An object is refused for want of memory alone.
+        // An object can only be rejected because an allocation failed.
         Err(_) => Err(Refused {
             value: object_put(op),
             fault: Fault::Memory,
@@ -96,8 +96,9 @@ pub fn insert<A: Allocator, T: Turns<A>>(
     }
 }
 
-/// Puts an object in if its key has none, and says whether it did (ets:insert_new/2); else the object is let go. A term
-/// that is no tuple with an element at the key's place is refused. What is refused is handed back.
+/// Inserts an object if its key has none, and returns whether it did (ets:insert_new/2); otherwise the object is
+/// dropped. Fails if the term is not a tuple with an element at the key's position, or if an allocation fails. The
+/// error hands the object back.
 pub fn insert_new<A: Allocator, T: Turns<A>>(
     turns: &mut T,
     object: Term<A>,
@@ -130,7 +131,7 @@ pub fn insert_new<A: Allocator, T: Turns<A>>(
     }
 }
 
-/// The objects of a key in the order of time (ets:lookup/2).
+/// Returns the objects of a key in the order of insertion (ets:lookup/2). Fails if an allocation fails.
 pub fn lookup<A: Allocator, T: Turns<A>>(
     turns: &mut T,
     key: &Term<A>,
@@ -149,7 +150,8 @@ pub fn lookup<A: Allocator, T: Turns<A>>(
     }
 }
 
-/// Deletes the objects of a key and answers them in the order of time (ets:take/2).
+/// Deletes the objects of a key, and returns them in the order of insertion (ets:take/2). Fails, with nothing deleted,
+/// if an allocation fails.
 pub fn take<A: Allocator, T: Turns<A>>(
     turns: &mut T,
     key: &Term<A>,
@@ -168,7 +170,7 @@ pub fn take<A: Allocator, T: Turns<A>>(
     }
 }
 
-/// Whether a key has an object (ets:member/2).
+/// Returns whether a key has an object (ets:member/2).
 pub fn member<A: Allocator, T: Turns<A>>(turns: &mut T, key: &Term<A>) -> bool
     requires { T.is_ready turns.old }
     ensures ready { T.is_ready turns.new }
@@ -190,8 +192,8 @@ pub fn delete<A: Allocator, T: Turns<A>>(turns: &mut T, key: &Term<A>)
     drop(done(turn_by_key(turns, key, PartOp::Delete(key))));
 }
 
-/// Deletes the objects that are equal to one (ets:delete_object/2). A term that is no tuple with an element at the
-/// key's place is refused.
+/// Deletes the objects that are equal to the given one (ets:delete_object/2). Fails if the term is not a tuple with an
+/// element at the key's position.
 pub fn delete_object<A: Allocator, T: Turns<A>>(
     turns: &mut T,
     object: &Term<A>,

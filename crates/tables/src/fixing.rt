@@ -1,4 +1,4 @@
-//! Calls at each part: counts of fixes.
+//! Methods for each part: counts of fixes.
 ghost use Rattle.std.specs.Prelude.{MatchBool, ℕ, ◌≡◌, ◌<◌, Some, IsTrue, IfOk, IfErr};
 ghost use Rattle.part_core.specs.Acts.Act.{Fix, Unfix, Release};
 ghost use Rattle.part_core.specs.Acts.Answer.{Replied};
@@ -13,14 +13,14 @@ use crate::turns::{Turns, turn_at};
 use part_core::{Fault, PartOp};
 use std::alloc::Allocator;
 
-/// What becomes of a session's counts of fixes.
+/// A change of a session's counts of fixes.
 #[derive(Clone, Copy)]
 pub(crate) enum Change {
-    /// One more.
+    /// One more fix.
     Fix,
-    /// One less.
+    /// One fix less.
     Unfix,
-    /// None left.
+    /// No fix is left.
     Release,
 }
 
@@ -30,7 +30,7 @@ impl Change {
     ghost use Rattle.tables.specs.Calls.{is_granted};
     ghost use Rattle.tables.specs.Fixing.{act_of_change};
 
-    /// The change can be made of a count.
+    /// Returns whether the change can be made to a count: `Fix` below 65,535, `Unfix` above 0, `Release` always.
     fn is_granted(self, count: u16) -> bool
         ensures { result ≡ is_granted (act_of_change self) count }
     {
@@ -41,7 +41,7 @@ impl Change {
         }
     }
 
-    /// The change as an operation at a part.
+    /// Returns the change as an operation at a part.
     fn op<'a, A: Allocator>(self) -> PartOp<'a, A>
         ensures { act_of result ≡ act_of_change self }
     {
@@ -53,7 +53,7 @@ impl Change {
     }
 }
 
-/// Whether the change can be made at each part.
+/// Returns whether the change can be made at each part.
 fn is_granted<A: Allocator, T: Turns<A>>(turns: &T, change: Change) -> bool
     requires { T.is_ready turns.now }
     ensures { (v : Views) → T.sees turns.now v → MatchBool result
@@ -68,7 +68,7 @@ fn is_granted<A: Allocator, T: Turns<A>>(turns: &T, change: Change) -> bool
     true
 }
 
-/// Makes the change at each part.
+/// Makes the change at each part. The session's count at each must allow it.
 fn change_each<A: Allocator, T: Turns<A>>(turns: &mut T, change: Change)
     requires ready { T.is_ready turns.old }
     requires granted { (v : Views) → T.sees turns.old v → IsGranted (T.home turns.old) (act_of_change change) v }
@@ -82,8 +82,8 @@ fn change_each<A: Allocator, T: Turns<A>>(turns: &mut T, change: Change)
     }
 }
 
-/// Fixes the table once more (ets:safe_fixtable/2): at each part, or at none where the session's count at some part is
-/// 65,535.
+/// Fixes the table once more (ets:safe_fixtable/2), at each part. If the session's count at some part is 65,535, fails
+/// with `FixLimit`, and fixes none.
 pub fn fix<A: Allocator, T: Turns<A>>(turns: &mut T) -> Result<(), Fault>
     requires { T.is_ready turns.old }
     ensures ready { T.is_ready turns.new }
@@ -100,7 +100,8 @@ pub fn fix<A: Allocator, T: Turns<A>>(turns: &mut T) -> Result<(), Fault>
     Ok(())
 }
 
-/// Releases one fix of the session (ets:safe_fixtable/2): at each part, or at none where its count at some part is 0.
+/// Releases one fix of the session (ets:safe_fixtable/2), at each part. If its count at some part is 0, fails with
+/// `NotFixed`, and releases none.
 pub fn unfix<A: Allocator, T: Turns<A>>(turns: &mut T) -> Result<(), Fault>
     requires { T.is_ready turns.old }
     ensures ready { T.is_ready turns.new }
@@ -128,7 +129,7 @@ pub fn release<A: Allocator, T: Turns<A>>(turns: &mut T)
     change_each(turns, Change::Release);
 }
 
-/// Makes a change at one part.
+/// Makes a change at one part. The session's count there must allow it.
 fn change_at<A: Allocator, T: Turns<A>>(turns: &mut T, part: u8, change: Change)
     requires ready { T.is_ready turns.old }
     requires part { part < (T.home turns.old).options.parts }
@@ -143,7 +144,7 @@ fn change_at<A: Allocator, T: Turns<A>>(turns: &mut T, part: u8, change: Change)
     drop(done(outcome));
 }
 
-/// Fixes one part once more, where the session's count is below 65,535.
+/// Fixes one part once more. The session's count there must be below 65,535.
 pub fn fix_at<A: Allocator, T: Turns<A>>(turns: &mut T, part: u8)
     requires ready { T.is_ready turns.old }
     requires part { part < (T.home turns.old).options.parts }
@@ -157,7 +158,7 @@ pub fn fix_at<A: Allocator, T: Turns<A>>(turns: &mut T, part: u8)
     change_at(turns, part, Change::Fix);
 }
 
-/// Releases one fix of one part, where the session has one.
+/// Releases one fix of one part. The session must have one there.
 pub fn unfix_at<A: Allocator, T: Turns<A>>(turns: &mut T, part: u8)
     requires ready { T.is_ready turns.old }
     requires part { part < (T.home turns.old).options.parts }

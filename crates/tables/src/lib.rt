@@ -1,17 +1,17 @@
-//! Tables: parts together, and what a session's calls make of what it sees of them.
+//! Tables: parts together, and what a session's methods do to what it sees of them.
 //!
-//! The one contract: each call of a session is a turn at the part of its key, or one at each part, or none where it is
-//! refused by its input (`specs/Calls.antt`); a turn adds its entry to the part's history, behind entries of other
-//! sessions, and that stays legal (`specs/Turns.antt`).
+//! The one contract: each call of a session is a turn at the part of its key, or one at each part, or none if its input
+//! is rejected (`specs/Calls.antt`). A turn adds its entry to the part's history, after entries of other sessions, and
+//! the history stays legal (`specs/Turns.antt`).
 //!
-//! - `options`: what a table is opened with; `turns`: the trait `Turns`, a session at a table.
+//! - `options`: the options of a table; `turns`: the trait `Turns`, a session at a table.
 //! - `local`: `LocalTable`, whose parts are used by one thread, and `LocalAt`, a session at it; `specs/OneThread.antt`
-//!   says what the calls make of the states of its parts.
-//! - `table`: `Table`, whose parts have gates, for sessions on threads of their own; `gate::Session`: a session with its
-//!   passes (`specs/Sessions.antt`); `at`: `At`, a session at such a table. `opening`: how tables are opened
+//!   says how the methods change the states of its parts.
+//! - `table`: `Table`, whose parts have gates, for sessions on threads of their own; `gate::Session`: a session with
+//!   its passes (`specs/Sessions.antt`); `at`: `At`, a session at such a table. `opening`: how tables are opened
 //!   (`specs/Opened.antt`).
 //! - `calls`: insert, lookup and the others at the part of a key; `fixing`: those at each part.
-//! - `replies`: what a turn answered. `laws`: that a session finds what it has put in (`specs/Laws.antt`).
+//! - `replies`: reading the answer of a turn. `laws`: that a session finds what it has inserted (`specs/Laws.antt`).
 #![tactic(auto)]
 
 mod at;

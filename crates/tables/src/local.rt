@@ -23,7 +23,7 @@ use term_core::Term;
 /// A table whose parts are used by one thread.
 #[derive(Drop)]
 pub struct LocalTable<P: Part<A> + Drop, A: Allocator = Global> {
-    /// What it was opened with.
+    /// The options that it was opened with.
     pub options: Options,
     /// Its parts, by their numbers.
     pub parts: Vec<P, A>,
@@ -34,8 +34,9 @@ pub struct LocalTable<P: Part<A> + Drop, A: Allocator = Global> {
 }
 
 impl<P: Part<A> + Drop, A: Allocator + Copy> LocalTable<P, A> {
-    /// A table without objects. The options are refused exactly where a number is outside its range, an ordered set has
-    /// more than one part, or the parts don't serve the kind, also where there is no memory.
+    /// Opens a table without objects. Fails with `BadOptions` exactly if a number is outside its range, an ordered set
+    /// has more than one part, or the parts don't serve the kind. Fails with `Memory` only if the options are valid and
+    /// an allocation fails.
     pub fn open(alloc: A, options: Options) -> Result<Self, OpenFault>
         ensures opened { IfOk result (λ t. IsOpenable P.serves options × (t.options ≡ options)
             × AreAfter P.is_after t.parts.items (λ part. [])) }
@@ -52,7 +53,7 @@ impl<P: Part<A> + Drop, A: Allocator + Copy> LocalTable<P, A> {
         Ok(LocalTable { options, parts })
     }
 
-    /// The objects, in the order of a walk.
+    /// Returns copies of the objects, part by part, in each part in walk order. Fails if an allocation fails.
     pub fn objects(&self, alloc: A) -> Result<Vec<Term<A>, A>, AllocError>
         ensures { IfOk result (λ objects. (v : Views) → AreAfter P.is_after self.now.parts.items v
             → objects.items ≡ objects_seen self.now.options v) }
@@ -67,7 +68,7 @@ impl<P: Part<A> + Drop, A: Allocator + Copy> LocalTable<P, A> {
 }
 
 impl<P: Part<A> + Drop, A: Allocator> LocalTable<P, A> {
-    /// Does an operation for a session at a part.
+    /// Performs an operation for a session at a part. If it fails, `op` and the part are as they were.
     fn turn<'a>(&mut self, number: u8, part: u8, op: &mut PartOp<'a, A>) -> Result<Reply<A>, Fault>
         requires session { number < self.old.options.sessions }
         requires part { part < self.old.options.parts }
@@ -83,7 +84,7 @@ impl<P: Part<A> + Drop, A: Allocator> LocalTable<P, A> {
         self.parts[usize::from(part)].apply(number, op)
     }
 
-    /// A session of the table, by its number.
+    /// Returns a session of the table, by its number.
     pub fn at(&mut self, number: u8) -> LocalAt<'_, P, A>
         requires { number < self.old.options.sessions }
         ensures same_reference { result.table.ghost_name ≡ self.entry.ghost_name }
@@ -96,7 +97,7 @@ impl<P: Part<A> + Drop, A: Allocator> LocalTable<P, A> {
         }
     }
 
-    /// Releases all fixes of a session.
+    /// Releases all fixes of a session, at each part.
     pub fn leave(&mut self, number: u8)
         requires { number < self.old.options.sessions }
         ensures options { self.new.options ≡ self.old.options }
@@ -107,7 +108,7 @@ impl<P: Part<A> + Drop, A: Allocator> LocalTable<P, A> {
         release(&mut session);
     }
 
-    /// Gives the table up: its parts are handed out, from the last to the first.
+    /// Closes the table: the result hands out its parts, from the last to the first.
     pub fn close(self) -> LocalParts<P, A>
         ensures { result.parts.items ≡ self.parts.items }
     {
@@ -180,17 +181,17 @@ impl<'t, A: Allocator, P: Part<A> + Drop> Turns<A> for LocalAt<'t, P, A> {
     }
 }
 
-/// The parts of a table that was given up.
+/// The parts of a table that was closed.
 #[derive(Drop)]
 pub struct LocalParts<P: Drop, A: Allocator = Global> {
-    /// The parts that are not handed out yet.
+    /// The parts that have not been handed out yet.
     pub parts: Vec<P, A>,
 }
 
 impl<P: Drop, A: Allocator> LocalParts<P, A> {
     ghost use Rattle.std.specs.Prelude.{◌≡◌, [], ◌∷◌, ◌++◌, MatchOption};
 
-    /// The last part that is not handed out yet, none when all are.
+    /// Returns the last part that has not been handed out yet, or `None` when all have been.
     pub fn next_part(&mut self) -> Option<P>
         ensures { MatchOption result (self.old.parts.items ≡ [])
             (λ part. self.old.parts.items ≡ self.new.parts.items ++ part ∷ []) }

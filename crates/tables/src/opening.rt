@@ -14,14 +14,15 @@ use gate::{Gate, Pass, Session};
 use part_core::{OpenFault, Part};
 use std::alloc::{AllocError, Allocator};
 
-/// Whether it would be an ordered set of more parts than one.
+/// Returns whether the options are those of an ordered set that does not have exactly one part.
 pub(crate) fn is_split_order(options: Options) -> bool
     ensures { result ≡ (is_ordered options.kind && not (options.parts == 1)) }
 {
     options.kind.is_ordered() && options.parts != 1
 }
 
-/// Parts without rows for a table.
+/// Makes parts without rows for a table. Fails with `BadOptions` if the parts don't serve the kind or a number is
+/// outside its range, and with `Memory` if an allocation fails.
 pub(crate) fn made<A: Allocator + Copy, P: Part<A> + Drop>(
     alloc: A,
     options: Options,
@@ -49,7 +50,7 @@ pub(crate) fn made<A: Allocator + Copy, P: Part<A> + Drop>(
     Ok(parts)
 }
 
-/// Sessions without passes, by their numbers.
+/// Makes sessions without passes, in the order of their numbers. Fails if an allocation fails.
 fn new_sessions<P: Part<A> + Drop, A: Allocator + Copy>(
     alloc: A,
     count: u8,
@@ -71,7 +72,7 @@ fn new_sessions<P: Part<A> + Drop, A: Allocator + Copy>(
     Ok(sessions)
 }
 
-/// Gives each session its pass at a gate.
+/// Gives each session its pass at a gate. Fails if an allocation fails.
 fn deal<P: Part<A> + Drop, A: Allocator>(
     options: Options,
     sessions: &mut Vec<Session<P, A>, A>,
@@ -94,7 +95,7 @@ fn deal<P: Part<A> + Drop, A: Allocator>(
     Ok(())
 }
 
-/// A gate over a part, and a pass for each session.
+/// Makes a gate over a part, and gives each session a pass. Fails if an allocation fails.
 fn new_gate<P: Part<A> + Drop, A: Allocator + Copy>(
     alloc: A,
     options: Options,
@@ -112,7 +113,7 @@ fn new_gate<P: Part<A> + Drop, A: Allocator + Copy>(
     Ok(gate)
 }
 
-/// A gate over each part, and passes for the sessions.
+/// Makes a gate over each part, and gives each session a pass at each. Fails if an allocation fails.
 fn new_gates<P: Part<A> + Drop, A: Allocator + Copy>(
     alloc: A,
     options: Options,
@@ -137,7 +138,7 @@ fn new_gates<P: Part<A> + Drop, A: Allocator + Copy>(
     Ok(gates)
 }
 
-/// A table over parts, and its sessions. Refused for want of memory alone.
+/// Makes a table over parts, and its sessions. Fails only if an allocation fails.
 pub(crate) fn gated<P: Part<A> + Drop, A: Allocator + Copy>(
     alloc: A,
     options: Options,

@@ -1,26 +1,26 @@
-//! What a table is opened with.
+//! The options of a table.
 ghost use Rattle.std.specs.Prelude.{◌≡◌};
 ghost use Rattle.tables.specs.Options.{settings_of};
 
 use part_core::{Settings, TableKind};
 
-/// What a table is opened with (STDLIB Reference Manual, ets:new/2).
+/// The options of a table (STDLIB Reference Manual, ets:new/2).
 #[derive(Clone, Copy, Debug, PartialEq, Eq)]
 pub struct Options {
     /// The table's name; tables that are open at the same time have different ones.
     pub name: u64,
-    /// What the table holds of a key.
+    /// What the table holds at a key, and its walk order.
     pub kind: TableKind,
-    /// The place of the key in an object, counted from 1: 1 to 65,535.
+    /// The position of the key in an object, counted from 1: 1 to 65,535.
     pub keypos: u16,
-    /// How many parts the keys are spread over: 1 to 64, of an ordered set 1.
+    /// The number of parts over which the keys are spread: 1 to 64, for an ordered set 1.
     pub parts: u8,
-    /// How many sessions use the table, numbered from 0: 1 to 16.
+    /// The number of sessions that use the table, numbered from 0: 1 to 16.
     pub sessions: u8,
 }
 
 impl Options {
-    /// What all parts of the table have in common.
+    /// Returns the settings that all parts of the table share.
     pub fn settings(&self) -> Settings
         ensures { result ≡ settings_of self.now }
     {

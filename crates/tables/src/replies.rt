@@ -1,4 +1,4 @@
-//! What a turn answered, as its call hands it on.
+//! The answer of a turn, in the form that its method returns.
 ghost use Rattle.std.specs.Prelude.{◌≡◌, IsTrue, Some, is_some, Ok};
 ghost use Rattle.std.specs.Result.{is_ok};
 ghost use Rattle.part_core.specs.Acts.Answer.{Replied};
@@ -10,7 +10,7 @@ use part_core::{Fault, PartOp, Reply};
 use std::alloc::Allocator;
 use term_core::Term;
 
-/// The object that an operation was to put in.
+/// Returns the object that an operation still has.
 pub(crate) fn object_put<A: Allocator>(op: PartOp<'_, A>) -> Term<A>
     requires { IsTrue (is_some (object_in op)) }
     ensures { object_in op.entry ≡ Some result }
@@ -21,7 +21,7 @@ pub(crate) fn object_put<A: Allocator>(op: PartOp<'_, A>) -> Term<A>
     }
 }
 
-/// What was done, of a turn that can't be refused.
+/// Returns the reply of a turn that cannot fail.
 pub(crate) fn done<A: Allocator>(outcome: Result<Reply<A>, Fault>) -> Reply<A>
     requires { IsTrue (is_ok outcome) }
     ensures { outcome ≡ Ok result }
@@ -32,7 +32,7 @@ pub(crate) fn done<A: Allocator>(outcome: Result<Reply<A>, Fault>) -> Reply<A>
     }
 }
 
-/// Yes or no.
+/// Returns the value of a reply of yes or no.
 pub(crate) fn flag<A: Allocator>(reply: Reply<A>) -> bool
     requires { IsTrue (is_flag (Replied (said_of reply))) }
     ensures { said_of reply ≡ Flag result }
@@ -44,7 +44,7 @@ pub(crate) fn flag<A: Allocator>(reply: Reply<A>) -> bool
     }
 }
 
-/// The objects of a key.
+/// Returns the objects of a reply of objects.
 pub(crate) fn objects<A: Allocator>(reply: Reply<A>) -> Vec<Term<A>, A>
     requires { IsTrue (is_objects (Replied (said_of reply))) }
     ensures { said_of reply ≡ Objects result.items }

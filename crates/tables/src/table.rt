@@ -18,16 +18,16 @@ use std::sync::Wait;
 /// A table whose parts have gates, for sessions on threads of their own.
 #[derive(Drop)]
 pub struct Table<P: Part<A> + Drop, A: Allocator = Global> {
-    /// What it was opened with.
+    /// The options that it was opened with.
     pub options: Options,
     /// The gates of its parts, by their numbers.
     pub gates: Vec<Gate<P, A>, A>,
 }
 
 impl<P: Part<A> + Drop, A: Allocator + Copy> Table<P, A> {
-    /// A table without objects, and its sessions, by their numbers. The options are refused exactly where a number is
-    /// outside its range, an ordered set has more than one part, or the parts don't serve the kind, also where there is
-    /// no memory.
+    /// Opens a table without objects. Returns it with its sessions, in the order of their numbers. Fails with
+    /// `BadOptions` exactly if a number is outside its range, an ordered set has more than one part, or the parts don't
+    /// serve the kind. Fails with `Memory` only if the options are valid and an allocation fails.
     pub fn open(alloc: A, options: Options) -> Result<(Self, Vec<Session<P, A>, A>), OpenFault>
         ensures opened { IfOk result (λ made. IsOpenable P.serves options × (made.0.options ≡ options)
             × AreOpened options made.0.gates.items made.1.items) }
@@ -44,9 +44,10 @@ impl<P: Part<A> + Drop, A: Allocator + Copy> Table<P, A> {
         gated(alloc, options, parts)
     }
 
-    /// The same over parts that are handed in. The options are refused exactly where a number is outside its range, an
-    /// ordered set has more than one part, or there is another number of parts, also where there is no memory; a
-    /// refusal drops the parts.
+    /// Opens a table over the given parts, which are in their opening state. Returns it with its sessions, in the order
+    /// of their numbers. Fails with `BadOptions` exactly if a number is outside its range, an ordered set has more than
+    /// one part, or the number of parts differs. Fails with `Memory` only if the options are valid and an allocation
+    /// fails. An error drops the parts.
     pub fn over(
         alloc: A,
         options: Options,
@@ -72,7 +73,7 @@ impl<P: Part<A> + Drop, A: Allocator + Copy> Table<P, A> {
 }
 
 impl<P: Part<A> + Drop, A: Allocator> Table<P, A> {
-    /// A session at the table.
+    /// Returns a session at the table, which waits by the runtime `rt`.
     pub fn at<'t, R: Wait>(&'t self, rt: &'t R, session: &'t mut Session<P, A>) -> At<'t, P, A, R>
         requires { IsOpened self.now.options self.now.gates.items session.old.number session.old.passes.items }
         ensures table { result.table.now ≡ self.now }
@@ -86,7 +87,7 @@ impl<P: Part<A> + Drop, A: Allocator> Table<P, A> {
         }
     }
 
-    /// Releases all fixes of a session, which ends with it.
+    /// Releases all fixes of a session, and drops the session.
     pub fn leave<R: Wait>(&self, rt: &R, session: Session<P, A>)
         requires { IsOpened self.now.options self.now.gates.items session.number session.passes.items }
     {
@@ -95,7 +96,7 @@ impl<P: Part<A> + Drop, A: Allocator> Table<P, A> {
         release(&mut at);
     }
 
-    /// Of what two sessions have seen of a part, one begins with the other, at each part. Waits for nobody.
+    /// Shows that of what two sessions have seen of a part, one begins with the other, at each part. It never waits.
     pub fn meet(&self, one: &mut Session<P, A>, other: &mut Session<P, A>)
         requires one { IsOpened self.now.options self.now.gates.items one.old.number one.old.passes.items }
         requires other { IsOpened self.now.options self.now.gates.items other.old.number other.old.passes.items }
@@ -109,7 +110,7 @@ impl<P: Part<A> + Drop, A: Allocator> Table<P, A> {
         }
     }
 
-    /// Gives the table up: its parts are handed out, from the last to the first.
+    /// Closes the table: the result hands out its parts, from the last to the first.
     pub fn close(self, session: Session<P, A>) -> Closed<P, A>
         requires { IsOpened self.options self.gates.items session.number session.passes.items }
         ensures gates { result.gates.items ≡ self.gates.items }

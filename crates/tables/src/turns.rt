@@ -10,32 +10,32 @@ use crate::options::Options;
 use part_core::{Fault, PartOp, Reply};
 use std::alloc::Allocator;
 
-/// A session at a table. It sees of each part a history, and each turn at a part adds its entry there, behind those of
+/// A session at a table. It sees a history of each part, and each turn at a part adds its entry there, after those of
 /// other sessions.
 pub trait Turns<A: Allocator> {
-    /// Where the session is.
+    /// The home of the session: its table's options, its number, and whether it is alone.
     ghost home: { Self → Home };
-    /// Turns can be made.
+    /// The session can make turns.
     ghost is_ready: { Self → Type 0 };
     /// The parts are in the states after these histories.
     ghost sees: { Self → Views → Type 0 };
 
-    /// What the table was opened with.
+    /// Returns the options that the table was opened with.
     fn options(&self) -> Options
         ensures { result ≡ (home self.now).options };
 
-    /// The session's number.
+    /// Returns the session's number.
     fn number(&self) -> u8
         ensures { result ≡ (home self.now).number };
 
-    /// How often the session fixes a part.
+    /// Returns how many times the session fixes a part.
     fn fixes(&self, part: u8) -> u16
         requires ready { is_ready self.now }
         requires part { part < (home self.now).options.parts }
         ensures { (v : Views) → sees self.now v → result ≡ fix_count (home self.now).number (v part) };
 
-    /// Does an operation at a part. What is done is spent: nothing of its object is left in it.
-    /// What is refused stays as it was, and want of memory leaves no entry.
+    /// Performs an operation at a part. If it succeeds, no object is left in `op`. If it fails, `op` and the part are
+    /// as they were. Running out of memory leaves no entry in the part's history.
     fn turn<'a>(&mut self, part: u8, op: &mut PartOp<'a, A>) -> Result<Reply<A>, Fault>
         requires ready { is_ready self.old }
         requires part { part < (home self.old).options.parts }
@@ -52,14 +52,14 @@ pub trait Turns<A: Allocator> {
     /// There is a part, and the session is one of the table's.
     ghost fits: { (s : Self) → is_ready s
         → (0 < (home s).options.parts) × ((home s).number < (home s).options.sessions) };
-    /// The parts are in states after some histories.
+    /// The parts are in the states after some histories.
     ghost seen: { (s : Self) → is_ready s → ∥ ((v : Views) × sees s v) ∥₁ };
-    /// These are legal.
+    /// The histories that the session sees are legal.
     ghost legal: { (s : Self) (v : Views) (part : ℕ) → is_ready s → sees s v
         → part < (home s).options.parts → IsLegal (settings_of (home s).options) (v part) };
 }
 
-/// Does an operation at a part, and lets go what is refused.
+/// Performs an operation at a part, and drops the operation, also if it fails.
 pub fn turn_at<'a, A: Allocator, T: Turns<A>>(
     turns: &mut T,
     part: u8,

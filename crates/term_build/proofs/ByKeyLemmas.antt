@@ -1,4 +1,4 @@
--- Terms that differ, as a test, and pairs put by rising key.
+-- Terms that differ, as a test, and pairs sorted by key.
 use Rattle.std.proofs.Common.{◌≡◌, ◌&&◌, ◌||◌, not, Bool, true, false, cond, List, [], ◌∷◌, refl, sym, ap, ◌∙◌, subst}
 use Rattle.std.specs.declared.cmp.Ordering.{Ordering}
 use Rattle.std.specs.declared.cmp.Ordering.TheVariants.{Less, Equal, Greater}
@@ -32,7 +32,7 @@ both : (a b : Bool) → (not a && b) ≡ true → (a ≡ false) × (b ≡ true)
 both true b h = absurd (cc)
 both false b h = (refl, h)
 
--- what the test says
+-- terms that pass the test all differ
 pub AreApart-from_are_apart : (ds : List Datum) → are_apart ds ≡ true → AreApart ds
 unfolding IsDistinct
 AreApart-from_are_apart [] h = tt
@@ -47,7 +47,7 @@ are_apart-from_AreApart [] h = refl
 are_apart-from_AreApart (d ∷ ds) h =
     ap (λ b. not b && are_apart ds) (passes_none (eq_by_cmp datum_cmp d) ds h.0) ∙ are_apart-from_AreApart ds h.1
 
--- no key stands twice among pairs whose keys differ
+-- no key occurs twice among pairs whose keys differ
 pub apart_from_are_apart : (pairs : List Pair) → are_apart (keys_of pairs) ≡ true → ¬ HasTwice pairs
 apart_from_are_apart pairs h = apart-no_twin pairs (AreApart-from_are_apart (keys_of pairs) h)
 
@@ -60,14 +60,14 @@ same_tests true false to from = sym (to refl)
 same_tests false true to from = from refl
 same_tests false false to from = refl
 
--- what the sorted references to terms say of the terms
+-- terms differ if no neighbours are equal among the sorted references to them
 pub apart-sorted : (test : Bool) (ds : List Datum) (xs ys : List Key) → seen xs ≡ ds → IsPermutation xs ys → (test ≡ true → AreApart (seen ys)) × (AreApart (seen ys) → test ≡ true) → test ≡ are_apart ds
 apart-sorted test ds xs ys same moved says =
     same_tests test (are_apart ds)
     (λ e. are_apart-from_AreApart ds (subst AreApart same (apart-seen ys xs (IsPermutation-sym xs ys moved) (says.0 e))))
     (λ e. says.1 (apart-seen xs ys moved (subst AreApart (sym same) (AreApart-from_are_apart ds e))))
 
--- ---- pairs by rising key
+-- ---- pairs in ascending key order
 
 placed_before : (p q : Pair) (qs : List Pair) → is_lt (datum_cmp p.0 q.0) ≡ true → placed p (q ∷ qs) ≡ p ∷ q ∷ qs
 placed_before p q qs e = ap (λ b. cond b (p ∷ q ∷ qs) (q ∷ placed p qs)) e
@@ -75,7 +75,7 @@ placed_before p q qs e = ap (λ b. cond b (p ∷ q ∷ qs) (q ∷ placed p qs)) 
 placed_behind : (p q : Pair) (qs : List Pair) → is_lt (datum_cmp p.0 q.0) ≡ false → placed p (q ∷ qs) ≡ q ∷ placed p qs
 placed_behind p q qs e = ap (λ b. cond b (p ∷ q ∷ qs) (q ∷ placed p qs)) e
 
--- a pair that is placed, and the others
+-- placing a pair is a permutation of that pair and the others
 pub placed-IsPermutation : (p : Pair) (qs : List Pair) → IsPermutation (p ∷ qs) (placed p qs)
 placed-IsPermutation p [] = IsPermutation-refl (p ∷ [])
 placed-IsPermutation p (q ∷ qs) = by (is_lt (datum_cmp p.0 q.0)) (placed-IsPermutation p qs)
@@ -94,7 +94,7 @@ by_key-IsPermutation (p ∷ ps) =
     IsPermutation-trans (p ∷ ps) (p ∷ by_key ps) (placed p (by_key ps)) (IsPermutation-cons p ps (by_key ps) (by_key-IsPermutation ps))
     (placed-IsPermutation p (by_key ps))
 
--- what stands before the pair that is placed and before the others stands before the first of all
+-- a key below the pair that is placed and below the first of the others is below the first of all
 below_placed : (k : Datum) (p : Pair) (qs : List Pair) → IsBelow k p.0 → IsBelowFirst k (entries_of qs) → IsBelowFirst k (entries_of (placed p qs))
 below_placed k p [] first rest = first
 below_placed k p (q ∷ qs) first rest = by (is_lt (datum_cmp p.0 q.0))
@@ -131,7 +131,7 @@ by_key-rises (p ∷ ps) h =
     let apart = apart_permutation (p ∷ ps) (p ∷ by_key ps) moved h in
     placed-rises p (by_key ps) apart.0 (by_key-rises ps h.1)
 
--- pairs by rising key are those of a map
+-- pairs sorted by key are the entries of their map
 pub IsMapOf-by_key : (pairs : List Pair) → ¬ HasTwice pairs → IsMapOf pairs (map (entries_of (by_key pairs)))
 IsMapOf-by_key pairs apart = record {
   entries = by_key pairs;
@@ -144,7 +144,7 @@ placed_first : (p : Pair) (qs : List Pair) → IsBelowFirst p.0 (entries_of qs) 
 placed_first p [] h = refl
 placed_first p (q ∷ qs) h = placed_before p q qs (ap is_lt (IsBelow-less p.0 q.0 h))
 
--- what rises stays as it is
+-- pairs in ascending key order stay as they are
 pub by_key-rising : (pairs : List Pair) → AreRising (entries_of pairs) → by_key pairs ≡ pairs
 by_key-rising [] up = refl
 by_key-rising (p ∷ ps) up = ap (placed p) (by_key-rising ps up.1) ∙ placed_first p ps up.0

@@ -1,4 +1,4 @@
--- What is within the limits, and what a refusal says of them.
+-- What is within the limits, and what a fault says of them.
 use Rattle.std.proofs.Common.{◌≡◌, ◌≢◌, true, false, ◌||◌, cond, Some, None, List, suc, length, refl, sym, ap, ◌∙◌, subst}
 use Rattle.std.specs.Prelude.{nat_lt}
 use Rattle.std.specs.List.Sorted.{IsPermutation}
@@ -34,12 +34,12 @@ long-is_too_long nil h = absurd h
 long-is_too_long (cons head tail) h = lt-ltb MAX_LIST (cell_count (cons head tail)) h
 long-is_too_long (binary bs) h = lt-ltb MAX_BINARY (length bs) h
 
--- a term is within the limits
+-- a term is not past the limits
 pub term-is_past_limits : (d : Datum) → IsTerm d → is_past_limits d ≡ false
 term-is_past_limits d term =
     ap (λ b. b || is_too_long d) (le-ltb MAX_DEPTH (depth d) term.shallow) ∙ sound-short d term.sound
 
--- what is refused for another cause than want of memory is past them
+-- what fails for another cause than out of memory is past the limits
 pub refused-is_past_limits : (fault : Fault) (d : Datum) → IsFault fault d → fault ≢ Memory → is_past_limits d ≡ true
 refused-is_past_limits Memory d f other = absurd (other refl)
 refused-is_past_limits TooDeep d f other = ap (λ b. b || is_too_long d) (lt-ltb MAX_DEPTH (depth d) f)
@@ -47,7 +47,7 @@ refused-is_past_limits TooLong d f other =
     ap (λ b. b || is_too_long d) (le-ltb MAX_DEPTH (depth d) f.0) ∙ long-is_too_long d f.1
 refused-is_past_limits DuplicateKey d f other = absurd f
 
--- a term that is made
+-- a term that was made is within the limits
 pub made-within_limits : (d t : Datum) → d ≡ t → IsTerm t → Some t ≡ within_limits d
 made-within_limits d t is term =
     ap Some (sym is) ∙ sym (ap (λ b. cond b None (Some d)) (term-is_past_limits d (subst IsTerm (sym is) term)))
@@ -55,7 +55,7 @@ made-within_limits d t is term =
 map-long : (es fs : List Pair) → IsPermutation es fs → entry_count (entries_of fs) ≡ entry_count (entries_of es)
 map-long es fs moved = entry_count-entries_of fs ∙ length_permutation es fs moved ∙ sym (entry_count-entries_of es)
 
--- the limits of a map don't depend on the order of its pairs
+-- the limits of a map do not depend on the order of its pairs
 pub is_past_limits-permutation : (es fs : List Pair) → IsPermutation es fs → is_past_limits (map (entries_of fs)) ≡ is_past_limits (map (entries_of es))
 is_past_limits-permutation es fs moved =
     ap (λ n. nat_lt MAX_DEPTH (suc n) || nat_lt MAX_MAP (entry_count (entries_of fs))) (entries_depth-permutation es fs moved)
@@ -67,7 +67,7 @@ map-is_past_limits TooDeep es f apart other = refused-is_past_limits TooDeep (ma
 map-is_past_limits TooLong es f apart other = refused-is_past_limits TooLong (map (entries_of es)) f other
 map-is_past_limits DuplicateKey es f apart other = absurd (apart f.2)
 
--- a map that is refused
+-- a map that fails for another cause than out of memory is past the limits
 pub map-refused : (fault : Fault) (es : List Pair) → IsMapFault fault es → ¬ HasTwice es → fault ≢ Memory → None ≡ within_limits (map (entries_of (by_key es)))
 map-refused fault es f apart other =
     let fs = by_key es in

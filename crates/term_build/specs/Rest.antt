@@ -1,2 +1,2 @@
--- What is left of a list behind some of its elements.
+-- The rest of a list after some of its elements.
 pub use Rattle.term_core.specs.Parts.{rest_of}

@@ -1,11 +1,11 @@
-//! Whether terms differ.
+//! Whether terms differ from each other.
 ghost use Rattle.std.specs.Prelude.{◌≡◌, map as map_list, IfOk};
 ghost use Rattle.term_core.specs.MapPairs.{are_apart as all_differ};
 
 use std::alloc::{AllocError, Allocator};
 use term_core::{Term, neighbours_differ};
 
-/// References to these terms.
+/// Returns references to these terms, in their order.
 fn references<'a, A: Allocator>(
     alloc: A,
     terms: &'a [Term<A>],
@@ -19,7 +19,7 @@ fn references<'a, A: Allocator>(
     Ok(references)
 }
 
-/// Whether no two of these terms are the same. It sorts references to them.
+/// Returns whether no two of these terms are equal. Allocates a row of references to them, which it sorts.
 pub fn are_apart<A: Allocator + Copy>(alloc: A, terms: &[Term<A>]) -> Result<bool, AllocError>
     ensures { IfOk result (λ apart. apart ≡ all_differ terms.now) }
 {

@@ -5,7 +5,7 @@ ghost use Rattle.std.specs.Option.{option_copied};
 use std::alloc::{AllocError, Allocator};
 use term_core::Term;
 
-/// Copies of these terms.
+/// Returns copies of these terms, in their order. Fails if an allocation or a copy fails.
 pub fn copy_all<A: Allocator>(alloc: A, terms: &[Term<A>]) -> Result<Vec<Term<A>, A>, AllocError>
     ensures { IfOk result (λ v. v.items ≡ terms.now) }
 {
@@ -16,7 +16,7 @@ pub fn copy_all<A: Allocator>(alloc: A, terms: &[Term<A>]) -> Result<Vec<Term<A>
     Ok(copies)
 }
 
-/// A copy of a list's tail, where there is one.
+/// Returns a copy of a list's tail, or `None` if there is none. Fails if the copy fails.
 pub fn copy_tail<A: Allocator>(tail: Option<&Term<A>>) -> Result<Option<Term<A>>, AllocError>
     ensures { IfOk result (λ t. t ≡ option_copied tail.entry) }
 {

@@ -1,4 +1,4 @@
-//! Terms that are made of terms, none where they would pass a limit.
+//! Terms made of terms, or `None` if they would exceed a limit.
 ghost use Rattle.std.specs.Prelude.{◌≡◌, ◌≢◌, IfOk, OnOk};
 ghost use Rattle.term_core.specs.Datum.{cells, entries_of, items_of};
 ghost use Rattle.term_core.specs.Datum.Datum.{map, tuple};
@@ -9,7 +9,7 @@ use crate::named::map_of_pairs;
 use std::alloc::{AllocError, Allocator};
 use term_core::{Fault, Term};
 
-/// A refusal for want of memory as an error, and any other as none.
+/// Turns a fault that is out of memory into an error, and any other fault into `Ok`.
 fn unless_memory(fault: Fault) -> Result<(), AllocError>
     ensures { OnOk result (fault ≢ Fault.Memory) }
 {
@@ -19,7 +19,8 @@ fn unless_memory(fault: Fault) -> Result<(), AllocError>
     }
 }
 
-/// The tuple of these elements, none where there are more than `MAX_TUPLE` or it would be deeper than `MAX_DEPTH`.
+/// Makes the tuple of these elements, or returns `None` if there are more than `MAX_TUPLE` or it would be deeper than
+/// `MAX_DEPTH`. Fails if an allocation fails.
 pub fn make_tuple<A: Allocator + Copy>(
     alloc: A,
     elements: Vec<Term<A>, A>,
@@ -28,7 +29,7 @@ pub fn make_tuple<A: Allocator + Copy>(
 {
     match Term::tuple(alloc, elements) {
         Ok(tuple) => {
-            // Read for the proof, which knows a term that was read to be within its limits.
+            // The proof needs this read: a term that is read is known to be within its limits.
             let _ = tuple.depth();
             Ok(Some(tuple))
         }
@@ -39,8 +40,9 @@ pub fn make_tuple<A: Allocator + Copy>(
     }
 }
 
-/// The list of these elements followed by a tail, none where it would have more than `MAX_LIST` elements, those that
-/// go on in the tail among them, or be deeper than `MAX_DEPTH`. Without elements it is the tail.
+/// Makes the list of these elements followed by a tail. Returns `None` if it would have more than `MAX_LIST` elements,
+/// counting those of a tail that is a list, or would be deeper than `MAX_DEPTH`. Without elements, the result is the
+/// tail. Fails if an allocation fails.
 pub fn make_list<A: Allocator + Copy>(
     alloc: A,
     elements: Vec<Term<A>, A>,
@@ -50,7 +52,7 @@ pub fn make_list<A: Allocator + Copy>(
 {
     match Term::list(alloc, elements, Some(tail)) {
         Ok(list) => {
-            // Read for the proof, which knows a term that was read to be within its limits.
+            // The proof needs this read: a term that is read is known to be within its limits.
             let _ = list.depth();
             Ok(Some(list))
         }
@@ -61,8 +63,8 @@ pub fn make_list<A: Allocator + Copy>(
     }
 }
 
-/// The map of these pairs, whose keys differ, none where there are more than `MAX_MAP` or it would be deeper than
-/// `MAX_DEPTH`. The pairs may come in any order.
+/// Makes the map of these pairs, in any order, whose keys all differ. Returns `None` if there are more than `MAX_MAP`
+/// pairs or the map would be deeper than `MAX_DEPTH`. Fails if an allocation fails.
 pub fn make_map<A: Allocator + Copy>(
     alloc: A,
     pairs: Vec<(Term<A>, Term<A>), A>,
@@ -72,7 +74,7 @@ pub fn make_map<A: Allocator + Copy>(
 {
     match map_of_pairs(alloc, pairs) {
         Ok(map) => {
-            // Read for the proof, which knows a term that was read to be within its limits.
+            // The proof needs this read: a term that is read is known to be within its limits.
             let _ = map.depth();
             Ok(Some(map))
         }

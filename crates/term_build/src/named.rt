@@ -1,4 +1,4 @@
-//! Atoms of text and maps of pairs, under names of their own.
+//! Atoms of text and maps of pairs, as functions.
 ghost use Rattle.std.specs.Prelude.{◌≡◌, IfOk, IfErr};
 ghost use Rattle.std.specs.Str.{chars};
 ghost use Rattle.term_core.specs.Datum.{Datum};
@@ -9,7 +9,7 @@ ghost use Rattle.term_core.specs.MapPairs.{HasTwice, IsMapOf, IsMapFault};
 use std::alloc::Allocator;
 use term_core::{Fault, Refused, Term};
 
-/// The atom of this text's characters. More than `MAX_CHARACTERS` are refused.
+/// Makes the atom of this text's characters. Fails if there are more than `MAX_CHARACTERS`, or if an allocation fails.
 pub fn atom_of_text<A: Allocator + Copy>(alloc: A, text: &str) -> Result<Term<A>, Fault>
     ensures ok { IfOk result (λ t. t ≡ atom (chars text.now)) }
     ensures refused { IfErr result (λ fault. IsFault fault (atom (chars text.now))) }
@@ -17,8 +17,8 @@ pub fn atom_of_text<A: Allocator + Copy>(alloc: A, text: &str) -> Result<Term<A>
     Term::atom(alloc, text)
 }
 
-/// The map of these pairs, which may come in any order. More than `MAX_MAP` are refused, a map deeper than
-/// `MAX_DEPTH`, and a key that stands twice.
+/// Makes the map of these pairs, in any order. Fails if it would be deeper than `MAX_DEPTH`, if there are more than
+/// `MAX_MAP` pairs, if a key occurs twice, or if an allocation fails. On failure, hands the pairs back in their order.
 pub fn map_of_pairs<A: Allocator + Copy>(
     alloc: A,
     pairs: Vec<(Term<A>, Term<A>), A>,

@@ -1,4 +1,4 @@
-//! What is left of a list behind some of its elements.
+//! The rest of a list after some of its elements.
 ghost use Rattle.std.specs.Prelude.{◌≡◌, ◌<◌, IfOk, length};
 ghost use Rattle.std.specs.Option.{option_copied};
 ghost use Rattle.term_core.specs.Datum.{cells};
@@ -11,10 +11,10 @@ use crate::copies::{copy_all, copy_tail};
 use std::alloc::{AllocError, Allocator};
 use term_core::{Term, View, deepest};
 
-/// How deep a list is whose elements hold nothing.
+/// The depth of a list whose elements contain no terms.
 const FLAT: u8 = 2;
 
-/// A list of copies of these elements and this tail.
+/// Makes the list of copies of these elements and of this tail.
 fn copy_list<A: Allocator + Copy>(
     alloc: A,
     elements: &[Term<A>],
@@ -28,7 +28,7 @@ fn copy_list<A: Allocator + Copy>(
     Term::list(alloc, copies, tail).map_err(|refused| refused.fault.alloc_error())
 }
 
-/// How deep a list's tail is, which is no list.
+/// Returns the depth of a list's tail that is not a list; no tail counts as `[]`, with depth 1.
 fn depth_of_tail<A: Allocator>(tail: Option<&Term<A>>) -> u8
     ensures { result ≡ depth (tail_of (option_copied tail.entry)) }
 {
@@ -38,7 +38,7 @@ fn depth_of_tail<A: Allocator>(tail: Option<&Term<A>>) -> u8
     }
 }
 
-/// How deep the list of these elements and this tail is.
+/// Returns the depth of the list of these elements and this tail.
 fn depth_of_list<A: Allocator>(elements: &[Term<A>], tail: Option<&Term<A>>) -> u8
     requires some { 0 < length elements.now }
     requires tail { IsTail (option_copied tail) }
@@ -48,9 +48,9 @@ fn depth_of_list<A: Allocator>(elements: &[Term<A>], tail: Option<&Term<A>>) -> 
     deepest(elements).max(depth_of_tail(tail)) + 1
 }
 
-/// What is left of a list behind so many of its elements, taken apart one level down. Another term is taken apart
-/// as it is.
-pub fn view_behind<A: Allocator>(term: &Term<A>, count: usize) -> View<'_, A>
+/// Returns a view of the rest of a list after its first `count` elements. If the list has no more elements than that,
+/// the view is of its tail. A term that is not a list is viewed as it is.
+pub fn view_rest<A: Allocator>(term: &Term<A>, count: usize) -> View<'_, A>
     ensures value { shown result ≡ rest_of count term.now }
     ensures split { IsSplit result }
     ensures term { IsTerm (rest_of count term.now) }
@@ -67,7 +67,7 @@ pub fn view_behind<A: Allocator>(term: &Term<A>, count: usize) -> View<'_, A>
             }
         }
         View::Integer(value) => View::Integer(value),
-        View::Atom(characters) => View::Atom(characters),
+        View::Atom(text) => View::Atom(text),
         View::Tuple(elements) => View::Tuple(elements),
         View::Nil => View::Nil,
         View::Map(pairs) => View::Map(pairs),
@@ -75,9 +75,9 @@ pub fn view_behind<A: Allocator>(term: &Term<A>, count: usize) -> View<'_, A>
     }
 }
 
-/// How deep what is left of a list behind so many of its elements is, from 1 to 255; of another term, how deep it is.
-/// It looks at each of these elements where one of them, or of those in front, holds something.
-pub fn depth_behind<A: Allocator>(term: &Term<A>, count: usize) -> u8
+/// Returns the depth, from 1 to 255, of the rest of a list after its first `count` elements, or of a term that is not a
+/// list. Looks at each remaining element, unless the whole list has only elements that contain no terms.
+pub fn depth_of_rest<A: Allocator>(term: &Term<A>, count: usize) -> u8
     ensures { result ≡ depth (rest_of count term.now) }
 {
     let View::List(elements, tail) = term.view() else {
@@ -92,9 +92,10 @@ pub fn depth_behind<A: Allocator>(term: &Term<A>, count: usize) -> u8
     depth_of_tail(tail)
 }
 
-/// What is left of a list behind so many of its elements, as a list of its own. It shares them with the list where it has
-/// more than a few and is as deep as the list, else they are copies. Another term is copied as it is.
-pub fn copy_behind<A: Allocator + Copy>(
+/// Returns the rest of a list after its first `count` elements, as a term of its own; after all elements, that is the
+/// tail. The rest shares the elements with the list if more than four remain and it is as deep as the list; otherwise
+/// it has copies of them. A term that is not a list is copied as it is. Fails if an allocation or a copy fails.
+pub fn copy_rest<A: Allocator + Copy>(
     alloc: A,
     term: &Term<A>,
     count: usize,

@@ -30,7 +30,7 @@ unfolding key_hash
 mix_cells-cells hash [] t h = mix_cells-end hash t h
 mix_cells-cells hash (d ∷ ds) t h = mix_cells-cells (mix hash (key_hash d)) ds t h
 
--- a list by its elements and its tail
+-- the hash of a list is its elements mixed in, and then its tail
 pub key_hash-cells : (ds : List Datum) (t : Option Datum) → 0 < length ds → IsTail t → key_hash (cells ds (tail_of t)) ≡ mix (mix_items 5 (items_of ds)) (key_hash (tail_of t))
 unfolding key_hash
 key_hash-cells [] t some h = absurd (omega arith)

@@ -9,3 +9,7 @@ pub mod SameLemmas
 pub mod PartLemmas
 pub mod FedLemmas
 pub mod SharedLemmas
+pub mod TextEq
+pub mod BytesOrder
+pub mod ByteLemmas
+pub mod TextLemmas

@@ -10,12 +10,12 @@ use Rattle.term_core.specs.declared.fault.Fault.{Fault}
 use Rattle.term_core.specs.declared.fault.Fault.TheVariants.{Memory, TooDeep, TooLong, DuplicateKey}
 use Rattle.term_core.specs.declared.TheConstants.{MAX_DEPTH, MAX_CHARACTERS, MAX_TUPLE, MAX_LIST, MAX_BINARY}
 
--- numbers that are bytes one by one
+-- numbers of which each is below 256 are bytes
 pub AreBytes-each : (bs : List ℕ) → ((i : ℕ) → get_or bs i 0 < 256) → AreBytes bs
 AreBytes-each [] h = tt
 AreBytes-each (b ∷ bs) h = (h 0, AreBytes-each bs (λ i. h (suc i)))
 
--- as many elements as the list has
+-- a list of terms has as many elements as the items made of it
 pub item_count-items_of : (ds : List Datum) → item_count (items_of ds) ≡ length ds
 item_count-items_of [] = refl
 item_count-items_of (d ∷ ds) = omega (arith, item_count-items_of ds)
@@ -24,25 +24,25 @@ pub entry_count-entries_of : (es : List (Datum × Datum)) → entry_count (entri
 entry_count-entries_of [] = refl
 entry_count-entries_of (e ∷ es) = omega (arith, entry_count-entries_of es)
 
--- what makes a binary
+-- a short enough row of bytes makes a binary
 pub binary-IsTerm : (bs items : List ℕ) → bs ≡ items → length bs ≤ MAX_BINARY → AreBytes bs → IsTerm (binary items)
 binary-IsTerm bs items same short bytes =
     let P : List ℕ → Type 0 = λ xs. IsTerm (binary xs) in
     subst P same (record { sound = (short, bytes); shallow = omega arith })
 
--- what makes a tuple
+-- few enough and shallow enough elements make a tuple
 pub tuple-IsTerm : (ds items : List Datum) → ds ≡ items → items_depth (items_of ds) < MAX_DEPTH → length ds ≤ MAX_TUPLE → AreSound (items_of ds) → IsTerm (tuple (items_of items))
 tuple-IsTerm ds items same shallow short sound =
     let P : List Datum → Type 0 = λ xs. IsTerm (tuple (items_of xs)) in
     subst P same (record { sound = (omega (arith, item_count-items_of ds), sound); shallow = omega arith })
 
--- what makes an atom
+-- a short enough row of characters makes an atom
 pub atom-IsTerm : (cs items : List ℕ) → cs ≡ items → length cs ≤ MAX_CHARACTERS → AreScalars cs → IsTerm (atom items)
 atom-IsTerm cs items same short scalars =
     let P : List ℕ → Type 0 = λ xs. IsTerm (atom xs) in
     subst P same (record { sound = (short, scalars); shallow = omega arith })
 
--- the elements of a list and those that go on in its tail
+-- the length of a list is the number of its elements and of those of its tail
 pub cell_count-cells : (ds : List Datum) (tail : Datum) → cell_count (cells ds tail) ≡ length ds + cell_count tail
 cell_count-cells [] tail = omega arith
 cell_count-cells (d ∷ ds) tail = omega (arith, cell_count-cells ds tail)
@@ -69,7 +69,7 @@ cell_count-sound nil h = omega arith
 cell_count-sound (cons head tail) h = h.0
 cell_count-sound (binary bs) h = omega arith
 
--- what is kept of a list
+-- the number of elements kept is the length of the list
 pub list-length : (elements : List Datum) (tail : Option Datum) → IsTail tail → length elements ≡ cell_count (cells elements (tail_of tail))
 list-length elements tail h = omega (arith, cell_count-cells elements (tail_of tail), cell_count-tail tail h)
 
@@ -81,12 +81,12 @@ cells-sound [] tail sound end short = end
 cells-sound (d ∷ ds) tail sound end short =
     (omega (arith, cell_count-cells ds tail), sound.0, cells-sound ds tail sound.1 end (omega arith))
 
--- what makes a list
+-- few enough and shallow enough elements and a tail make a list
 pub cells-IsTerm : (ds : List Datum) (tail : Datum) → 0 < length ds → AreSound (items_of ds) → IsSound tail → length ds + cell_count tail ≤ MAX_LIST → max (items_depth (items_of ds)) (tail_depth tail) < MAX_DEPTH → IsTerm (cells ds tail)
 cells-IsTerm ds tail some sound end short shallow =
     record { sound = cells-sound ds tail sound end short; shallow = omega (arith, depth-cells ds tail some) }
 
--- a list past its limit
+-- a list with too many elements is too long
 pub cells-long : (ds : List Datum) (tail : Datum) → 0 < length ds → MAX_LIST < length ds + cell_count tail → IsTooLong (cells ds tail)
 cells-long [] tail some long = absurd (omega arith)
 cells-long (d ∷ ds) tail some long = omega (arith, cell_count-cells ds tail)
@@ -108,14 +108,14 @@ not_too_long nil t h = h
 not_too_long (cons head tail) t h = let few = t.sound.0 in absurd (omega arith)
 not_too_long (binary bs) t h = let few = t.sound.0 in absurd (omega arith)
 
--- what is a term is refused for want of memory alone
+-- the only fault of what is a term is out of memory
 pub term-refused : (f : Fault) (d : Datum) → IsTerm d → IsFault f d → f ≡ Memory
 term-refused Memory d t h = refl
 term-refused TooDeep d t h = let most = t.shallow in absurd (omega arith)
 term-refused TooLong d t h = absurd (not_too_long d t h.1)
 term-refused DuplicateKey d t h = absurd h
 
--- what is not at most three is more
+-- a length that is not at most three is more than three
 pub longer : (cs : List ℕ) → (length cs ≤ 3 → ⊥) → 3 < length cs
 longer [] h = absurd (h (omega arith))
 longer (a ∷ []) h = absurd (h (omega arith))

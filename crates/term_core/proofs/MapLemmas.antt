@@ -1,4 +1,4 @@
--- Pairs in any order, and the map that they make.
+-- Pairs in any order, and the map made of them.
 use Rattle.std.proofs.Common.{◌≡◌, ◌≢◌, ℕ, suc, zero, ◌+◌, ◌-◌, ◌<◌, ◌≤◌, max, true, false, List, [], ◌∷◌, length, get_or, drop, map as map_list, refl, sym, ap, ◌∙◌, subst, arith, inl, inr, ◌⊎◌, ⊎_elim, add-one, true≢false}
 use Rattle.std.specs.declared.cmp.Ordering.{Ordering}
 use Rattle.std.specs.declared.cmp.Ordering.TheVariants.{Less, Equal, Greater}
@@ -32,7 +32,7 @@ Pair = Datum × Datum
 abbrev pub AreApart : List Datum → Type 0
 AreApart = IsDistinct (eq_by_cmp datum_cmp)
 
--- what the comparison says
+-- terms that compare as Less are below each other
 pub below : (a b : Datum) → datum_cmp a b ≡ Less → IsBelow a b
 below a b e = subst (λ o. MatchOrdering o (IsBelow a b) (a ≡ b) (IsBelow b a)) e (datum_cmp-says a b)
 
@@ -43,9 +43,9 @@ same_terms a b e = from_says (datum_cmp a b) e (datum_cmp-says a b) where
   from_says Equal t m = m
   from_says Greater t m = cc
 
--- ---- keys that rise
+-- ---- ascending keys
 
--- each key stands before the next, by places
+-- the key at each place is below the key at the next place
 abbrev pub RiseByPlaces : List Pair → Type 0
 RiseByPlaces es = (k : ℕ) (d : Pair) → suc k < length es → datum_cmp (get_or es k d).0 (get_or es (suc k) d).0 ≡ Less
 
@@ -61,7 +61,7 @@ rising_from_places (e ∷ []) h = (tt, tt)
 rising_from_places (e ∷ f ∷ es) h =
     (below e.0 f.0 (h 0 e (omega arith)), rising_from_places (f ∷ es) (λ k d l. h (suc k) d (omega arith)))
 
--- the same, as a loop has it
+-- a pair's key is below the next pair's, as a loop compares them
 abbrev pub Rises : Pair → Pair → Type 0
 Rises p q = datum_cmp p.0 q.0 ≡ Less
 
@@ -100,7 +100,7 @@ keys_sorted es h = sorted_from_all_adjacent datum_cmp_total (keys_of es) nil (λ
 pub apart_from_rising : (es : List Pair) → AreRising (entries_of es) → AreApart (keys_of es)
 apart_from_rising es h = IsDistinct-from_sorted datum_cmp (keys_of es) (keys_sorted es h)
 
--- ---- keys that stand twice
+-- ---- keys that occur twice
 
 flips : (x y : Datum) → eq_by_cmp datum_cmp x y ≡ eq_by_cmp datum_cmp y x
 flips x y = (eq_by_cmp_equiv datum_cmp_total).symm x y
@@ -118,7 +118,7 @@ apart-no_twin es h t =
     let same = key_at es t.first (nil, nil) nil first ∙ t.same (nil, nil) ∙ sym (key_at es t.second (nil, nil) nil there) in
     true≢false (sym (ap is_eq (datum_cmp-same same)) ∙ differ)
 
--- a pair with this key
+-- a pair with this key is among these pairs
 record StandsIn (k : Datum) (es : List Pair) : Type 0 where
   pub place : ℕ
   pub within : place < length es
@@ -181,7 +181,7 @@ rising_from_sort es up apart = rising_from_places es (λ k d l.
     let differ : is_eq (datum_cmp a b) ≡ false = rw (key_at es k d nil here, key_at es (suc k) d nil l) at (apart_from_distinct (eq_by_cmp datum_cmp) (keys_of es) k (suc k) nil apart (omega arith) (omega arith)) in
     only_less (datum_cmp a b) (datum_cmp b a) _ (datum_cmp_total.antisymm a b) (rw add-one at (up k d (omega arith) (omega arith))) differ)
 
--- ---- keys behind references
+-- ---- keys through references
 
 abbrev pub Key : Type 0
 Key = Bor Datum
@@ -229,7 +229,7 @@ pub apart-seen : (xs ys : List Key) → IsPermutation xs ys → AreApart (seen x
 apart-seen xs ys moved h =
     IsDistinct-IsPermutation (eq_by_cmp datum_cmp) flips (seen xs) (seen ys) (IsPermutation-map (λ k. k.now) xs ys moved) h
 
--- what the sorted keys of pairs say of the pairs
+-- two equal neighbours among the sorted keys are a key that occurs twice among the pairs
 pub twice_from_keys : (es : List Pair) (xs ys : List Key) → seen xs ≡ keys_of es → IsPermutation xs ys → ¬ AreApart (seen ys) → HasTwice es
 twice_from_keys es xs ys same moved h =
     twice_from_not_apart es (λ k. h (apart-seen xs ys moved (subst AreApart (sym same) k)))
@@ -238,7 +238,7 @@ pub no_twin_from_keys : (es : List Pair) (xs ys : List Key) → seen xs ≡ keys
 no_twin_from_keys es xs ys same moved h =
     apart-no_twin es (subst AreApart same (apart-seen ys xs (IsPermutation-sym xs ys moved) h))
 
--- ---- depth and limits in another order
+-- ---- depth and limits do not depend on the order of pairs
 
 abbrev IsPairWithin : ℕ → Pair → Type 0
 IsPairWithin n p = max (depth p.0) (depth p.1) ≤ n
@@ -266,7 +266,7 @@ entries_depth-permutation xs ys moved =
 pub ord_max-nat : (m n : ℕ) → ord_max nat_cmp m n ≡ max m n
 ord_max-nat m n = grind (arith, nat_tests)
 
--- one pair more of those looked at
+-- the greatest depth so far, after one more pair
 pub deepest_more : (es : List Pair) (i n k v : ℕ) (p : Pair) → i < length es → p ≡ get_or es i p → k ≡ depth p.0 → v ≡ depth p.1 → max n (entries_depth (entries_of (drop i es))) ≡ entries_depth (entries_of es) → max (max (max n k) v) (entries_depth (entries_of (drop (i + 1) es))) ≡ entries_depth (entries_of es)
 deepest_more es i n k v p l x deep_key deep_value h =
     let here = ap (λ fs. entries_depth (entries_of fs)) (drop_more es i p l) in
@@ -281,7 +281,7 @@ pairs_sound : (es : List Pair) → AllByRecursion IsPairSound es → AreRising (
 pairs_sound [] sound up = tt
 pairs_sound (e ∷ es) sound up = (sound.0.0, sound.0.1, up.0, pairs_sound es sound.1 up.1)
 
--- what makes a map
+-- pairs with a depth and ascending keys make a map
 pub map-IsTerm : (level : ℕ) (ps : List Pair) → IsMapDepth level ps → AreRising (entries_of ps) → IsTerm (map (entries_of ps)) × (level ≡ depth (map (entries_of ps)))
 map-IsTerm level ps h up =
     let short = h.short in
@@ -295,7 +295,7 @@ map-IsTerm level ps h up =
       is,
     )
 
--- the depth of the same pairs in another order
+-- the depth of a map does not depend on the order of its pairs
 pub map_depth-permutation : (level : ℕ) (xs ys : List Pair) → IsMapDepth level xs → IsPermutation xs ys → IsMapDepth level ys
 map_depth-permutation level xs ys h moved =
     let deep = entries_depth-permutation xs ys moved in
@@ -309,7 +309,7 @@ map_depth-permutation level xs ys h moved =
       sound = All-permutation IsPairSound xs ys moved h.sound;
     }
 
--- what has a depth is within the limits
+-- pairs with a depth are within the limits
 pub within_limits : (level : ℕ) (es : List Pair) → IsMapDepth level es → (depth (map (entries_of es)) ≤ MAX_DEPTH) × ¬ IsTooLong (map (entries_of es))
 within_limits level es h =
     let short = h.short in
@@ -318,11 +318,11 @@ within_limits level es h =
     let count = entry_count-entries_of es in
     (omega arith, λ long. omega arith)
 
--- what was handed back for want of memory
+-- a failure after the depth was found is out of memory
 pub memory_fault : (level : ℕ) (es given : List Pair) (fault : Fault) → IsMapDepth level es → (given ≡ es) × (fault ≡ Memory) → (given ≡ es) × IsMapFault fault es
 memory_fault level es given fault h r = (r.0, rw r.1 (within_limits level es h))
 
--- what a sort of pairs whose keys differ makes
+-- sorting pairs whose keys differ makes their map
 pub map_from_sort : (es fs : List Pair) → ¬ HasTwice es → IsPermutation es fs → IsSorted pair_cmp fs → AreRising (entries_of fs)
 map_from_sort es fs apart moved up =
     rising_from_sort fs up (apart_permutation es fs moved (apart_from_no_twin es apart))
@@ -331,7 +331,7 @@ pub map_from_rising : (es : List Pair) (d : Datum) → AreRising (entries_of es)
 map_from_rising es d up is =
     record { entries = es; permutation = IsPermutation-refl es; rising = up; is = is }
 
--- ---- the one map of its pairs
+-- ---- pairs have only one map
 
 later_less : (p : Pair) (es : List Pair) → AreRising (entries_of (p ∷ es)) → (q : Pair) → Contains es q → datum_cmp p.0 q.0 ≡ Less
 later_less p es h q c =
@@ -352,7 +352,7 @@ not_both p q less more =
     let no : Less ≡ Greater = sym less ∙ datum_cmp_total.antisymm p.0 q.0 ∙ ap ordering_reverse more in
     cc
 
--- where an element of a list stands
+-- an element of a list is the first or among the later ones
 first_or_later : (p q : Pair) (es : List Pair) (k : ℕ) → k < length (p ∷ es) → get_or (p ∷ es) k q ≡ q → (p ≡ q) ⊎ Contains es q
 first_or_later p q es zero l e = inl e
 first_or_later p q es (suc k) l e = inr (k, omega arith, e)
@@ -380,7 +380,7 @@ same_pairs (p ∷ es) (q ∷ fs) up over h i =
     let rest : es ≡ fs = same_pairs es fs up.1 over.1 (rest_within p es fs up (rw (← first) at h)) (rest_within q fs es over (rw first at i)) in
     cc
 
--- pairs are those of one map
+-- two maps of the same pairs are the same map
 pub IsMapOf-one : (pairs : List Pair) (d e : Datum) → IsMapOf pairs d → IsMapOf pairs e → d ≡ e
 IsMapOf-one pairs d e m n =
     let moved = IsPermutation-trans m.entries pairs n.entries (IsPermutation-sym pairs m.entries m.permutation) n.permutation in

@@ -20,12 +20,12 @@ cells-improper [] (cons head tail) none = absurd none
 cells-improper [] (binary bs) none = refl
 cells-improper (d ∷ ds) tail none = ap (option_map (λ es. d ∷ es)) (cells-improper ds tail none)
 
--- a list without a tail of its own has its elements
+-- a list without a tail of its own is proper, with its elements
 pub proper-elements : (ds : List Datum) (t : Option Datum) (d : Datum) → t ≡ None → cells ds (tail_of t) ≡ d → Some ds ≡ proper_elements d
 proper-elements ds None d none is = sym (cells-proper ds) ∙ ap proper_elements is
 proper-elements ds (Some x) d some is = absurd (none-some x (sym some))
 
--- one with a tail has none
+-- a list with a tail of its own is not proper
 pub improper-elements : (ds : List Datum) (t : Option Datum) (tail d : Datum) → t ≡ Some tail → cells ds (tail_of t) ≡ d → IsTail t → None ≡ proper_elements d
 improper-elements ds None tail d none is h = absurd (none-some tail none)
 improper-elements ds (Some x) tail d some is h = sym (cells-improper ds x h) ∙ ap proper_elements is

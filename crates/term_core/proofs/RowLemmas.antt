@@ -13,13 +13,13 @@ use Rattle.term_core.proofs.LimitLemmas.{item_count-items_of, entry_count-entrie
 use Rattle.term_core.specs.OrderLaws.{datum_cmp-kinds}
 use Rattle.term_core.specs.Order.{rank, datum_cmp, items_cmp, keys_cmp, values_cmp}
 
--- an answer that is not Equal decides
+-- the first of two comparisons decides if it is not Equal
 pub then_first : (o p : Ordering) → o ≢ Equal → ordering_then o p ≡ o
 then_first Less p h = refl
 then_first Equal p h = absurd (h refl)
 then_first Greater p h = refl
 
--- a row from a place on
+-- a row from a place on begins with the element there
 pub drop_at : {X : Type 0} (xs : List X) (i : ℕ) (x : X) → i < length xs → x ≡ get_or xs i x → drop i xs ≡ x ∷ drop (suc i) xs
 drop_at [] i x h e = absurd (omega arith)
 drop_at (y ∷ xs) zero x h e = ap (λ z. z ∷ xs) (sym e)
@@ -29,7 +29,7 @@ module _ {X Y : Type 0} (f : List X → List Y → Ordering) (cmp : X → Y → 
   at_place : (xs : List X) (ys : List Y) (i : ℕ) (x : X) (y : Y) → i < length xs → i < length ys → x ≡ get_or xs i x → y ≡ get_or ys i y → f (drop i xs) (drop i ys) ≡ ordering_then (cmp x y) (f (drop (suc i) xs) (drop (suc i) ys))
   at_place xs ys i x y hx hy ex ey = rw (drop_at xs i x hx ex, drop_at ys i y hy ey) (step x y (drop (suc i) xs) (drop (suc i) ys))
 
-  -- two places that differ decide
+  -- the first places that differ decide how two rows compare
   pub decided : (xs : List X) (ys : List Y) (i : ℕ) (x : X) (y : Y) (o w : Ordering) → i < length xs → i < length ys → x ≡ get_or xs i x → y ≡ get_or ys i y → o ≡ cmp x y → o ≢ Equal → f (drop i xs) (drop i ys) ≡ w → o ≡ w
   decided xs ys i x y o w hx hy ex ey is differ whole =
       sym (then_first o (f (drop (suc i) xs) (drop (suc i) ys)) differ)
@@ -37,7 +37,7 @@ module _ {X Y : Type 0} (f : List X → List Y → Ordering) (cmp : X → Y → 
       ∙ sym (at_place xs ys i x y hx hy ex ey)
       ∙ whole
 
-  -- after two places that agree, what is left decides
+  -- after two places that agree, the rest decides how two rows compare
   pub level : (xs : List X) (ys : List Y) (i : ℕ) (x : X) (y : Y) (w : Ordering) → i < length xs → i < length ys → x ≡ get_or xs i x → y ≡ get_or ys i y → Equal ≡ cmp x y → f (drop i xs) (drop i ys) ≡ w → f (drop (i + 1) xs) (drop (i + 1) ys) ≡ w
   level xs ys i x y w hx hy ex ey is whole =
       rw add-one (ap (λ p. ordering_then p (f (drop (suc i) xs) (drop (suc i) ys))) is ∙ sym (at_place xs ys i x y hx hy ex ey) ∙ whole)
@@ -70,7 +70,7 @@ pub cells_step : (s t x y : Datum) (xs ys : List Datum) → rows_of_cells s t (x
 unfolding datum_cmp
 cells_step s t x y xs ys = refl
 
--- an element is no deeper than all of them
+-- an element is no deeper than the deepest of all
 pub depth-element : (xs : List Datum) (i : ℕ) (x : Datum) → i < length xs → x ≡ get_or xs i x → depth x ≤ items_depth (items_of xs)
 depth-element [] i x h e = absurd (omega arith)
 depth-element (y ∷ xs) zero x h e = rw e (omega arith)
@@ -84,7 +84,7 @@ depth-entry (y ∷ xs) (suc i) x h e = let rest = depth-entry xs i x (omega arit
 nat_cmp-itself : (m n : ℕ) → m ≡ n → nat_cmp m n ≡ Equal
 nat_cmp-itself m n e = sym (nat_cmp_is m n Equal e)
 
--- tuples of one size go by their elements, maps by their keys and values
+-- tuples of the same size compare by their elements, maps by their keys and values
 pub tuples-level : (xs ys : List Datum) → length xs ≡ length ys → datum_cmp (tuple (items_of xs)) (tuple (items_of ys)) ≡ items_cmp (items_of xs) (items_of ys)
 unfolding datum_cmp
 tuples-level xs ys e =
@@ -97,7 +97,7 @@ maps-level xs ys e =
     let same : entry_count (entries_of xs) ≡ entry_count (entries_of ys) = omega (arith, entry_count-entries_of xs, entry_count-entries_of ys) in
     ap (λ o. ordering_then o (ordering_then (keys_cmp (entries_of xs) (entries_of ys)) (values_cmp (entries_of xs) (entries_of ys)))) (nat_cmp-itself _ _ same)
 
--- else by their sizes
+-- tuples of two sizes compare by size
 pub tuples-sizes : (xs ys : List Datum) (o : Ordering) → o ≡ nat_cmp (length xs) (length ys) → o ≢ Equal → o ≡ datum_cmp (tuple (items_of xs)) (tuple (items_of ys))
 unfolding datum_cmp
 tuples-sizes xs ys o e differ =
@@ -122,7 +122,7 @@ pub values-none : values_cmp (entries_of []) (entries_of []) ≡ Equal
 unfolding datum_cmp
 values-none = refl
 
--- [] and the end of a list
+-- [] compares with the end of a list by rank
 pub nil-left : (d : Datum) → nat_cmp 4 (rank d) ≡ datum_cmp nil d
 unfolding datum_cmp
 nil-left nil = refl
@@ -140,7 +140,7 @@ no_list-rank : (d : Datum) → IsNoList d → rank d ≢ 5
 no_list-rank (cons head tail) h e = h
 no_list-rank d h e = omega arith
 
--- no tail is of the kind of the other lists
+-- a tail does not have the rank of a non-empty list
 pub tail-rank : (t : Option Datum) → IsTail t → rank (tail_of t) ≢ 5
 tail-rank None h e = omega arith
 tail-rank (Some d) h e = no_list-rank d h e
@@ -153,7 +153,7 @@ pub ended-right : (s t : Datum) (xs : List Datum) → rank t ≢ 5 → 0 < lengt
 ended-right s t [] h some = absurd (omega arith)
 ended-right s t (x ∷ xs) h some = datum_cmp-kinds (cons x (cells xs s)) t (λ e. h (sym (nat_cmp-equal 5 (rank t) e)))
 
--- the one term of its kind
+-- terms with the rank of [] are []
 pub nil-rank : (d : Datum) → 4 ≡ rank d → Equal ≡ datum_cmp nil d
 unfolding datum_cmp
 nil-rank nil e = refl

@@ -5,17 +5,21 @@ use Rattle.std.specs.declared.cmp.Ordering.TheVariants.{Less, Equal, Greater}
 use Rattle.std.specs.Prelude.{Bool, nat_eq}
 use Rattle.std.specs.Cmp.Lexicographic.{pointwise, same_text}
 use Rattle.std.specs.Ordering.{is_eq}
+use Rattle.std.proofs.Math.Utf8.{encodes}
 use Rattle.std.proofs.lemmas.Bool.{eq-eqb}
+use Rattle.std.proofs.lemmas.Str.{encodes-chars}
+use Rattle.std.specs.Str.{IsUtf8, chars}
 use Rattle.term_core.specs.Datum.{Datum, Items, items_of, item_count}
 use Rattle.term_core.specs.Datum.Datum.{atom, tuple}
 use Rattle.term_core.specs.Order.{datum_cmp, is_same}
 use Rattle.term_core.specs.OrderLaws.{datum_cmp-equal, datum_cmp-same}
-use Rattle.term_core.specs.Term.{padded, IsShort}
+use Rattle.term_core.specs.Term.{padded, IsShortText}
+use Rattle.term_core.proofs.ByteLemmas.{length_padded}
 use Rattle.term_core.proofs.LimitLemmas.{item_count-items_of}
 use Rattle.term_core.proofs.MapLemmas.{same_terms}
 use Rattle.term_core.proofs.RowLemmas.{drop_at}
 
--- what is one term is the same
+-- equal terms are the same
 pub itself : (a b : Datum) → a ≡ b → is_same a b ≡ true
 itself a b e = ap is_eq (datum_cmp-same e)
 
@@ -24,7 +28,7 @@ not_equal Less h = refl
 not_equal Equal h = absurd (h refl)
 not_equal Greater h = refl
 
--- and what is not, isn't
+-- different terms are not the same
 pub differ : (a b : Datum) → (a ≡ b → ⊥) → is_same a b ≡ false
 differ a b h = not_equal (datum_cmp a b) (λ e. h (datum_cmp-equal a b e))
 
@@ -34,7 +38,7 @@ apart a b other e = true≢false (sym (itself a b e) ∙ other)
 tuple_inner : {a b : Items} → tuple a ≡ tuple b → a ≡ b
 tuple_inner {a} {b} e = cc
 
--- elements at one place of one tuple
+-- equal tuples have equal elements at each place
 element_same : (xs ys : List Datum) (i : ℕ) (x y : Datum) → i < length xs → length xs ≡ length ys → x ≡ get_or xs i x → y ≡ get_or ys i y → items_of xs ≡ items_of ys → x ≡ y
 element_same [] ys i x y there size ex ey e = absurd (omega arith)
 element_same (v ∷ xs) [] i x y there size ex ey e = absurd (omega arith)
@@ -43,17 +47,17 @@ element_same (v ∷ xs) (w ∷ ys) zero x y there size ex ey e =
 element_same (v ∷ xs) (w ∷ ys) (suc i) x y there size ex ey e =
     let rest : items_of xs ≡ items_of ys = cc in element_same xs ys i x y (omega arith) (omega arith) ex ey rest
 
--- tuples of two sizes
+-- tuples of two sizes differ
 pub sizes_differ : (xs ys : List Datum) → (length xs ≡ length ys → ⊥) → is_same (tuple (items_of xs)) (tuple (items_of ys)) ≡ false
 sizes_differ xs ys h =
     differ (tuple (items_of xs)) (tuple (items_of ys)) (λ e. h (sym (item_count-items_of xs) ∙ ap item_count (tuple_inner e) ∙ item_count-items_of ys))
 
--- tuples with elements at one place that are not the same
+-- tuples with different elements at one place differ
 pub tuples_differ : (xs ys : List Datum) (i : ℕ) (x y : Datum) → i < length xs → length xs ≡ length ys → x ≡ get_or xs i x → y ≡ get_or ys i y → is_same x y ≡ false → is_same (tuple (items_of xs)) (tuple (items_of ys)) ≡ false
 tuples_differ xs ys i x y there size ex ey other =
     differ (tuple (items_of xs)) (tuple (items_of ys)) (λ e. apart x y other (element_same xs ys i x y there size ex ey (tuple_inner e)))
 
--- one element more, in front of those that are the same
+-- equal rests of tuples with equal elements before them are equal
 pub one_before : (xs ys : List Datum) (i : ℕ) (x y : Datum) → i < length xs → length xs ≡ length ys → x ≡ get_or xs i x → y ≡ get_or ys i y → is_same x y ≡ true → drop (suc i) xs ≡ drop (suc i) ys → drop i xs ≡ drop i ys
 one_before xs ys i x y there size ex ey same rest =
     let in_ys : i < length ys = omega arith in
@@ -62,51 +66,50 @@ one_before xs ys i x y there size ex ey same rest =
     ∙ ap (λ zs. y ∷ zs) rest
     ∙ sym (drop_at ys i y in_ys ey)
 
-length_padded : (cs : List ℕ) → length (padded cs) ≡ 3
-length_padded [] = refl
-length_padded (a ∷ []) = refl
-length_padded (a ∷ b ∷ []) = refl
-length_padded (a ∷ b ∷ c ∷ cs) = refl
-
-taken : (n : ℕ) (cs : List ℕ) → n ≤ length cs → length (take n cs) ≡ n
-taken zero cs h = refl
+taken : (n : ℕ) (ys : List ℕ) → n ≤ length ys → length (take n ys) ≡ n
+taken zero ys h = refl
 taken (suc n) [] h = absurd (omega arith)
-taken (suc n) (c ∷ cs) h = ap suc (taken n cs (omega arith))
+taken (suc n) (b ∷ ys) h = ap suc (taken n ys (omega arith))
 
-short_length : (n : ℕ) (cs : List ℕ) → IsShort n cs → length (take n cs) ≡ n
-short_length n cs h = taken n cs (omega (arith, ap length h.1, length_padded (take n cs), h.0))
+short_length : (n : ℕ) (ys : List ℕ) → IsShortText n ys → length (take n ys) ≡ n
+short_length n ys h = taken n ys (omega (arith, ap length h.1, length_padded 14 (take n ys), h.0))
 
 atom_inner : {cs ds : List ℕ} → atom cs ≡ atom ds → cs ≡ ds
 atom_inner {cs} {ds} e = cc
 
--- short atoms of two lengths
-pub counts_differ : (n m : ℕ) (cs ds : List ℕ) → IsShort n cs → IsShort m ds → (n ≡ m → ⊥) → is_same (atom (take n cs)) (atom (take m ds)) ≡ false
-counts_differ n m cs ds a b h =
-    differ (atom (take n cs)) (atom (take m ds)) (λ e. h (sym (short_length n cs a) ∙ ap length (atom_inner e) ∙ short_length m ds b))
+-- texts with the same characters have the same bytes
+same_bytes : (xs ys : List ℕ) → IsUtf8 xs → IsUtf8 ys → atom (chars xs) ≡ atom (chars ys) → xs ≡ ys
+same_bytes xs ys text other e =
+    sym (encodes-chars xs text) ∙ ap encodes (atom_inner e) ∙ encodes-chars ys other
 
--- short atoms of other characters
-pub characters_differ : (n m : ℕ) (cs ds : List ℕ) → IsShort n cs → IsShort m ds → (cs ≡ ds → ⊥) → is_same (atom (take n cs)) (atom (take m ds)) ≡ false
-characters_differ n m cs ds a b h =
-    differ (atom (take n cs)) (atom (take m ds)) (λ e. h (a.1 ∙ ap padded (atom_inner e) ∙ sym b.1))
+-- short atoms of two lengths differ
+pub counts_differ : (n m : ℕ) (xs ys : List ℕ) → IsShortText n xs → IsShortText m ys → (n ≡ m → ⊥) → is_same (atom (chars (take n xs))) (atom (chars (take m ys))) ≡ false
+counts_differ n m xs ys a b h =
+    differ (atom (chars (take n xs))) (atom (chars (take m ys))) (λ e. h (sym (short_length n xs a) ∙ ap length (same_bytes (take n xs) (take m ys) a.2 b.2 e) ∙ short_length m ys b))
 
-text_itself : (cs : List ℕ) → pointwise nat_eq cs cs ≡ true
-text_itself [] = refl
-text_itself (c ∷ cs) = rw (eq-eqb c c refl) (text_itself cs)
+-- short atoms with different bytes differ
+bytes_differ : (n m : ℕ) (xs ys : List ℕ) → IsShortText n xs → IsShortText m ys → (xs ≡ ys → ⊥) → is_same (atom (chars (take n xs))) (atom (chars (take m ys))) ≡ false
+bytes_differ n m xs ys a b h =
+    differ (atom (chars (take n xs))) (atom (chars (take m ys))) (λ e. h (a.1 ∙ ap (padded 14) (same_bytes (take n xs) (take m ys) a.2 b.2 e) ∙ sym b.1))
 
--- short atoms of one length go by their characters
-pub characters_decide : (n m : ℕ) (cs ds : List ℕ) (test : Bool) → IsShort n cs → IsShort m ds → n ≡ m → test ≡ pointwise nat_eq cs ds → test ≡ is_same (atom (take n cs)) (atom (take m ds))
-characters_decide n m cs ds true a b count e =
-    let is : cs ≡ ds = same_text cs ds e in
-    let same : atom (take n cs) ≡ atom (take m ds) = cc in
-    sym (itself (atom (take n cs)) (atom (take m ds)) same)
-characters_decide n m cs ds false a b count e =
-    sym (characters_differ n m cs ds a b (λ is. true≢false (sym (text_itself cs) ∙ ap (pointwise nat_eq cs) is ∙ sym e)))
+bytes_themselves : (ys : List ℕ) → pointwise nat_eq ys ys ≡ true
+bytes_themselves [] = refl
+bytes_themselves (b ∷ ys) = rw (eq-eqb b b refl) (bytes_themselves ys)
 
--- a short atom and a longer one
-pub long_differs : (n : ℕ) (cs ds : List ℕ) → IsShort n cs → 3 < length ds → is_same (atom (take n cs)) (atom ds) ≡ false
-long_differs n cs ds a long =
-    differ (atom (take n cs)) (atom ds) (λ e. absurd (omega (arith, short_length n cs a, ap length (atom_inner e), a.0, long)))
+-- short atoms of the same length are equal if their bytes are
+pub bytes_decide : (n m : ℕ) (xs ys : List ℕ) (test : Bool) → IsShortText n xs → IsShortText m ys → n ≡ m → test ≡ pointwise nat_eq xs ys → test ≡ is_same (atom (chars (take n xs))) (atom (chars (take m ys)))
+bytes_decide n m xs ys true a b count e =
+    let is : xs ≡ ys = same_text xs ys e in
+    let same : atom (chars (take n xs)) ≡ atom (chars (take m ys)) = cc in
+    sym (itself (atom (chars (take n xs))) (atom (chars (take m ys))) same)
+bytes_decide n m xs ys false a b count e =
+    sym (bytes_differ n m xs ys a b (λ is. true≢false (sym (bytes_themselves xs) ∙ ap (pointwise nat_eq xs) is ∙ sym e)))
 
-pub differs_long : (n : ℕ) (cs ds : List ℕ) → IsShort n cs → 3 < length ds → is_same (atom ds) (atom (take n cs)) ≡ false
-differs_long n cs ds a long =
-    differ (atom ds) (atom (take n cs)) (λ e. absurd (omega (arith, short_length n cs a, ap length (atom_inner e), a.0, long)))
+-- a short atom differs from a longer one
+pub long_differs : (n : ℕ) (xs ys : List ℕ) → IsShortText n xs → IsUtf8 ys → 14 < length ys → is_same (atom (chars (take n xs))) (atom (chars ys)) ≡ false
+long_differs n xs ys a text long =
+    differ (atom (chars (take n xs))) (atom (chars ys)) (λ e. absurd (omega (arith, short_length n xs a, ap length (same_bytes (take n xs) ys a.2 text e), a.0, long)))
+
+pub differs_long : (n : ℕ) (xs ys : List ℕ) → IsShortText n xs → IsUtf8 ys → 14 < length ys → is_same (atom (chars ys)) (atom (chars (take n xs))) ≡ false
+differs_long n xs ys a text long =
+    differ (atom (chars ys)) (atom (chars (take n xs))) (λ e. absurd (omega (arith, short_length n xs a, ap length (same_bytes ys (take n xs) text a.2 e), a.0, long)))

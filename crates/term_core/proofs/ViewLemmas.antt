@@ -7,7 +7,7 @@ use Rattle.term_core.specs.View.{shown, IsSplit}
 use Rattle.term_core.specs.declared.view.View.{View}
 use Rattle.term_core.specs.declared.view.View.TheVariants as view
 
--- the rank of what a view shows
+-- the rank of the term that a view shows
 abbrev pub view_rank : {A : Type 0} → View A → ℕ
 view_rank (view.Integer z) = 0
 view_rank (view.Atom cs) = 1
@@ -49,6 +49,6 @@ pub not_binary : {A : Type 0} (v : View A) → ((bs : Bor (List ℕ)) → v ≡ 
 not_binary (view.Binary bs) h e = h bs refl
 not_binary v h e = omega arith
 
--- the kind that two terms share, by what one is
+-- the kind that two terms share, given the view of one of them
 pub shared_rank : {A : Type 0} (v : View A) (a b c : Datum) → shown v ≡ b → IsSplit v → c ≡ a → rank a ≡ rank b → view_rank v ≡ rank c
 shared_rank v a b c seen split is same = sym (rank-shown v split) ∙ ap rank seen ∙ sym same ∙ sym (ap rank is)

@@ -1,5 +1,5 @@
--- A term as a row of numbers and texts that gives it back, by which proofs tell terms apart. Each part stands behind
--- its own parts, and a stack of what was read so far takes them together.
+-- A term as a row of numbers and texts from which the term can be read back. Proofs use it to tell terms apart. Each
+-- part follows its own parts, and a stack of what was read so far puts them together.
 use Rattle.std.specs.Prelude.{ℕ, ◌≡◌, ◌==◌, if◌then◌else◌, ℤ, pos, List, [], ◌∷◌, refl}
 use Rattle.std.specs.Coded.{Coded, code_by, coded×, coded_ℕ, coded_ℤ, coded_list}
 use Rattle.std.proofs.Common.{◌∙◌, ap}
@@ -8,7 +8,7 @@ use Rattle.term_core.specs.Datum.Datum.{integer, atom, tuple, map, nil, cons, bi
 use Rattle.term_core.specs.Datum.Items.{no_items, item}
 use Rattle.term_core.specs.Datum.Entries.{no_entries, entry}
 
--- a kind of part, an integer and a text
+-- one part in such a row: the number of its kind, an integer and a text
 abbrev pub Mark : Type 0
 Mark = ℕ × (ℤ × List ℕ)
 

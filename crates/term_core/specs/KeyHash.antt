@@ -6,7 +6,7 @@ use Rattle.term_core.specs.Datum.Datum.{integer, atom, tuple, map, nil, cons, bi
 use Rattle.term_core.specs.Datum.Items.{no_items, item}
 use Rattle.term_core.specs.Datum.Entries.{no_entries, entry}
 
--- a hash so far, and what is mixed into it
+-- a hash so far with one part mixed in
 abbrev pub mix : ℕ → ℕ → ℕ
 mix hash part = (hash * 1_099_511_628_211 + part) % 2 ^ 64
 
@@ -16,8 +16,9 @@ mix_all hash [] = hash
 mix_all hash (x ∷ xs) = mix_all (mix hash x) xs
 
 unfoldable mutual
-  -- An integer gives itself modulo 2 ^ 64, [] gives 4. The others start from the number of their kind, and mix in what
-  -- they hold from the left: characters, elements, keys and their values, elements and the tail, bytes.
+  -- The hash of a term. An integer gives its value modulo 2 ^ 64, [] gives 4. All others start from the number of their
+  -- kind and mix in their content from the left: characters, elements, keys and their values, elements and the tail,
+  -- bytes.
   pub key_hash : Datum → ℕ
   key_hash (integer z) = cast_unsigned w64 z
   key_hash (atom cs) = mix_all 1 cs
@@ -35,7 +36,7 @@ unfoldable mutual
   mix_entries hash no_entries = hash
   mix_entries hash (entry k v es) = mix_entries (mix (mix hash (key_hash k)) (key_hash v)) es
 
-  -- the elements that go on in a tail, and the tail at their end
+  -- a hash with the remaining elements of a list and the tail at their end mixed in
   pub mix_cells : ℕ → Datum → ℕ
   mix_cells hash (cons head tail) = mix_cells (mix hash (key_hash head)) tail
   mix_cells hash (integer z) = mix hash (cast_unsigned w64 z)

@@ -1,5 +1,5 @@
--- How deep a term is, and what makes a datum a term: whole numbers of 64 bits, characters that are Unicode
--- scalar values, bytes, rising map keys, and the limits of this engine.
+-- How deep a term is, and what makes a datum a term: integers of 64 bits, characters that are Unicode scalar values,
+-- bytes, ascending map keys, and the limits of this engine.
 use Rattle.std.specs.Prelude.{ℕ, suc, max, ◌<◌, ◌≤◌, nat_lt, Bool, false, ◌||◌, if◌then◌else◌, Option, Some, None, List, [], ◌∷◌, length, FitsSigned}
 use Rattle.std.specs.Int.{w64}
 use Rattle.std.specs.Char.{IsScalar}
@@ -11,7 +11,8 @@ use Rattle.term_core.specs.Order.{IsBelowFirst}
 use Rattle.term_core.specs.Sizes.{depth_limit, atom_limit, tuple_limit, map_limit, list_limit, binary_limit}
 
 abbrev mutual
-  -- 1 for what holds nothing, else one more than the greatest depth of its elements, tail, keys and values
+  -- the depth of a term: 1 if it contains no terms, else one more than the greatest depth of its elements, tail, keys
+  -- and values
   pub depth : Datum → ℕ
   depth (integer z) = 1
   depth (atom cs) = 1
@@ -29,7 +30,7 @@ abbrev mutual
   entries_depth no_entries = 0
   entries_depth (entry k v es) = max (depth k) (max (depth v) (entries_depth es))
 
-  -- the greatest depth among the elements that go on in a tail, and the tail at their end
+  -- the greatest depth among the remaining elements of a list and the tail at their end
   pub tail_depth : Datum → ℕ
   tail_depth (integer z) = 1
   tail_depth (atom cs) = 1
@@ -39,7 +40,7 @@ abbrev mutual
   tail_depth (cons head tail) = max (depth head) (tail_depth tail)
   tail_depth (binary bs) = 1
 
--- each a Unicode scalar value
+-- code points of which each is a Unicode scalar value
 abbrev pub AreScalars : List ℕ → Type 0
 AreScalars [] = Unit {0}
 AreScalars (c ∷ cs) = IsScalar c × AreScalars cs
@@ -49,7 +50,7 @@ AreBytes [] = Unit {0}
 AreBytes (b ∷ bs) = (b < 256) × AreBytes bs
 
 abbrev mutual
-  -- each part is a term but for its depth
+  -- a datum that satisfies all conditions of a term but the one for depth, in each of its parts
   pub IsSound : Datum → Type 0
   IsSound (integer z) = FitsSigned w64 z
   IsSound (atom cs) = (length cs ≤ atom_limit) × AreScalars cs
@@ -64,7 +65,7 @@ abbrev mutual
   AreSound no_items = Unit {0}
   AreSound (item d ds) = IsSound d × AreSound ds
 
-  -- and the keys rise
+  -- pairs that are sound, with keys in ascending order
   pub ArePairsSound : Entries → Type 0
   ArePairsSound no_entries = Unit {0}
   ArePairsSound (entry k v es) = IsSound k × IsSound v × IsBelowFirst k es × ArePairsSound es
@@ -74,7 +75,7 @@ pub record IsTerm (d : Datum) : Type 0 where
   pub sound : IsSound d
   pub shallow : depth d ≤ depth_limit
 
--- past the limit of its kind
+-- whether a datum is longer than the limit of its kind
 abbrev pub is_too_long : Datum → Bool
 is_too_long (integer z) = false
 is_too_long (atom cs) = nat_lt atom_limit (length cs)
@@ -84,10 +85,10 @@ is_too_long nil = false
 is_too_long (cons head tail) = nat_lt list_limit (cell_count (cons head tail))
 is_too_long (binary bs) = nat_lt binary_limit (length bs)
 
--- deeper or longer than a term may be, its parts being terms
+-- whether a datum of parts that are terms is deeper or longer than a term may be
 abbrev pub is_past_limits : Datum → Bool
 is_past_limits d = nat_lt depth_limit (depth d) || is_too_long d
 
--- what is made of terms, none where it passes a limit
+-- a datum made of terms, or None if it exceeds a limit
 abbrev pub within_limits : Datum → Option Datum
 within_limits d = if is_past_limits d then None else Some d

@@ -12,32 +12,32 @@ use Rattle.term_core.specs.declared.fault.Fault.{Fault}
 use Rattle.term_core.specs.declared.fault.Fault.TheVariants.{Memory, TooDeep, TooLong, DuplicateKey}
 use Rattle.term_core.specs.Fault.{IsFault, IsTooLong}
 
--- each key stands before the next
+-- each key is below the next
 abbrev pub AreRising : Entries → Type 0
 AreRising no_entries = Unit {0}
 AreRising (entry k v es) = IsBelowFirst k es × AreRising es
 
--- the keys of pairs, as they stand
+-- the keys of pairs, in the order of the pairs
 abbrev pub keys_of : List (Datum × Datum) → List Datum
 keys_of pairs = map_list (λ pair. pair.0) pairs
 
--- no two of these terms are the same
+-- whether no two of these terms are equal
 abbrev pub are_apart : List Datum → Bool
 are_apart [] = true
 are_apart (d ∷ ds) = not (list_any (eq_by_cmp datum_cmp d) ds) && are_apart ds
 
--- a pair put before the first of these whose key is above its own
+-- pairs with one more, inserted before the first whose key is above its own
 abbrev pub placed : Datum × Datum → List (Datum × Datum) → List (Datum × Datum)
 placed pair [] = pair ∷ []
 placed pair (other ∷ others) =
     if is_lt (datum_cmp pair.0 other.0) then pair ∷ other ∷ others else other ∷ placed pair others
 
--- the same pairs by rising key
+-- pairs sorted in ascending key order
 abbrev pub by_key : List (Datum × Datum) → List (Datum × Datum)
 by_key [] = []
 by_key (pair ∷ pairs) = placed pair (by_key pairs)
 
--- a key stands at two places among these pairs
+-- the same key occurs at two places among these pairs
 pub record HasTwice (pairs : List (Datum × Datum)) : Type 0 where
   pub first : ℕ
   pub second : ℕ
@@ -46,15 +46,15 @@ pub record HasTwice (pairs : List (Datum × Datum)) : Type 0 where
   pub same : (d : Datum × Datum) → (slice_index_or pairs first d).0
       ≡ (slice_index_or pairs second d).0
 
--- the finite map of exactly these pairs: they stand in it by rising key
+-- a datum is the map of exactly these pairs, which it has in ascending key order
 pub record IsMapOf (pairs : List (Datum × Datum)) (d : Datum) : Type 0 where
   pub entries : List (Datum × Datum)
   pub permutation : IsPermutation pairs entries
   pub rising : AreRising (entries_of entries)
   pub is : d ≡ map (entries_of entries)
 
--- What a refusal says of the pairs of a map: the depth comes first, then the length, then keys that stand twice, and
--- want of memory last.
+-- What a fault says of the pairs of a map. Depth is checked first, then length, then keys that occur twice, and out of
+-- memory comes last.
 abbrev pub IsMapFault : Fault → List (Datum × Datum) → Type 0
 IsMapFault DuplicateKey pairs =
     (depth (map (entries_of pairs)) ≤ depth_limit) × (¬ IsTooLong (map (entries_of pairs)))
@@ -63,11 +63,11 @@ IsMapFault Memory pairs = IsFault Memory (map (entries_of pairs))
 IsMapFault TooDeep pairs = IsFault TooDeep (map (entries_of pairs))
 IsMapFault TooLong pairs = IsFault TooLong (map (entries_of pairs))
 
--- a key and its value within their limits
+-- a pair whose key and value are sound
 abbrev pub IsPairSound : Datum × Datum → Type 0
 IsPairSound pair = IsSound pair.0 × IsSound pair.1
 
--- how deep the map of pairs is that are within the limits
+-- the depth of the map of pairs that are within the limits
 pub record IsMapDepth (level : ℕ) (pairs : List (Datum × Datum)) : Type 0 where
   pub depth : level ≡ depth (map (entries_of pairs))
   pub shallow : level ≤ depth_limit

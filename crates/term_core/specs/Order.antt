@@ -10,7 +10,7 @@ use Rattle.term_core.specs.Datum.Datum.{integer, atom, tuple, map, nil, cons, bi
 use Rattle.term_core.specs.Datum.Items.{item}
 use Rattle.term_core.specs.Datum.Entries.{no_entries, entry}
 
--- where a kind stands among the kinds
+-- the rank of a term's kind in the order of kinds
 abbrev pub rank : Datum → ℕ
 rank (integer z) = 0
 rank (atom cs) = 1
@@ -20,15 +20,15 @@ rank nil = 4
 rank (cons head tail) = 5
 rank (binary es) = 6
 
--- numbers from the left, a beginning being less
+-- the first text is below the second: the first numbers that differ decide, and a prefix is below the longer text
 abbrev pub AreBelow : List ℕ → List ℕ → Type 0
 AreBelow xs [] = ⊥
 AreBelow [] (y ∷ ys) = Unit {0}
 AreBelow (x ∷ xs) (y ∷ ys) = (x < y) ⊎ ((x ≡ y) × AreBelow xs ys)
 
 unfoldable mutual
-  -- The first term stands before the second: integers by value; atoms and binaries from the left; tuples by size,
-  -- then by elements; maps by size, then by keys, then by values; lists by head, then by tail; else by kind.
+  -- The first term is below the second: integers by value; atoms and binaries from the left; tuples by size, then by
+  -- elements; maps by size, then by keys, then by values; lists by head, then by tail; else by kind.
   pub IsBelow : Datum → Datum → Type 0
   IsBelow (integer a) (integer b) = a <ℤ b
   IsBelow (atom a) (atom b) = AreBelow a b
@@ -42,7 +42,7 @@ unfoldable mutual
   IsBelow (binary a) (binary b) = AreBelow a b
   IsBelow a b = rank a < rank b
 
-  -- the first elements that differ decide
+  -- the first elements that differ decide which row of elements is below the other
   pub ItemsBelow : Items → Items → Type 0
   ItemsBelow (item a ds) (item b es) = IsBelow a b ⊎ ((a ≡ b) × ItemsBelow ds es)
   ItemsBelow ds es = ⊥
@@ -55,13 +55,13 @@ unfoldable mutual
   ValuesBelow (entry k a ds) (entry l b es) = IsBelow a b ⊎ ((a ≡ b) × ValuesBelow ds es)
   ValuesBelow ds es = ⊥
 
--- a key stands before the first of these
+-- a key is below the first of these keys, if there is one
 abbrev pub IsBelowFirst : Datum → Entries → Type 0
 IsBelowFirst k no_entries = Unit {0}
 IsBelowFirst k (entry l w es) = IsBelow k l
 
 unfoldable mutual
-  -- which of two terms stands first, as a value that computes
+  -- compares two terms, as a value that computes
   pub datum_cmp : Datum → Datum → Ordering
   datum_cmp (integer a) (integer b) = int_cmp a b
   datum_cmp (atom a) (atom b) = slice_cmp nat_cmp a b
@@ -86,6 +86,6 @@ unfoldable mutual
   values_cmp (entry k a ds) (entry l b es) = ordering_then (datum_cmp a b) (values_cmp ds es)
   values_cmp ds es = Equal
 
--- the same term
+-- whether two terms are equal
 abbrev pub is_same : Datum → Datum → Bool
 is_same d e = is_eq (datum_cmp d e)

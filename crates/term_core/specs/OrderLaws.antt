@@ -1,5 +1,5 @@
--- The order of terms is total: each term is laid out as a row of marks, comparing rows is comparing terms, and the
--- order of rows is total.
+-- The order of terms is total: each term has a row of marks, comparing these rows is comparing terms, and the order of
+-- rows is total.
 use Rattle.std.proofs.Common.{◌≡◌, ◌≢◌, ℕ, ◌<◌, ℤ, pos, negsuc, ◌<ℤ◌, List, [], ◌∷◌, refl, ap, sym, ◌∙◌, subst, arith, inl, inr, ◌⊎◌}
 use Rattle.std.specs.declared.cmp.Ordering.{Ordering}
 use Rattle.std.specs.declared.cmp.Ordering.TheVariants.{Less, Equal, Greater}
@@ -15,7 +15,7 @@ use Rattle.term_core.specs.Datum.Items.{no_items, item}
 use Rattle.term_core.specs.Datum.Entries.{no_entries, entry}
 use Rattle.term_core.specs.Order.{rank, AreBelow, IsBelow, ItemsBelow, KeysBelow, ValuesBelow, datum_cmp, items_cmp, keys_cmp, values_cmp}
 
--- characters or bytes, and -1 behind them
+-- the marks of characters or bytes, with -1 after them
 abbrev text_marks : List ℕ → List ℤ → List ℤ
 text_marks [] rest = negsuc 0 ∷ rest
 text_marks (c ∷ cs) rest = pos c ∷ text_marks cs rest
@@ -70,7 +70,7 @@ text_cmp (a ∷ more) [] xs ys = refl
 text_cmp (a ∷ more) (b ∷ bs) xs ys =
     rw (pos_cmp a b, text_cmp more bs xs ys) (then_assoc (nat_cmp a b) (slice_cmp nat_cmp more bs) (slice_cmp int_cmp xs ys))
 
--- two counts, and then what is compared where they agree
+-- comparing two counts first, and then what is compared where they agree
 counted : (m n : ℕ) (r s t : Ordering) → (m ≡ n → r ≡ ordering_then s t) → ordering_then (int_cmp (pos m) (pos n)) r ≡ ordering_then (ordering_then (nat_cmp m n) s) t
 counted m n r s t e =
     rw (pos_cmp m n) (by_ranked (m < n) (m ≡ n) (n < m) {G = ordering_then (nat_cmp m n) r ≡ ordering_then (ordering_then (nat_cmp m n) s) t} (nat_cmp m n) (ranked m n (nat_cmp m n) refl) (λ o _. rw o) (λ o h. rw o (e h)) (λ o _. rw o))
@@ -123,14 +123,14 @@ datum_cmp_total = subst IsTotalOrder (λ i a b. datum_cmp_on a b i) (on_total (�
 pub datum_cmp-same : {a b : Datum} → a ≡ b → datum_cmp a b ≡ Equal
 datum_cmp-same {a} {b} e = ap (datum_cmp a) (sym e) ∙ tied_itself datum_cmp_total a
 
--- what an answer says: the first fact at Less, the second at Equal, the third at Greater
+-- what a result of a comparison says: the first fact at Less, the second at Equal, the third at Greater
 record Says (o : Ordering) (P E Q : Type 0) : Type 0 where
   pub fact : MatchOrdering o P E Q
 
 numbers_say : (m n : ℕ) → Says (nat_cmp m n) (m < n) (m ≡ n) (n < m)
 numbers_say m n = record { fact = ranked m n (nat_cmp m n) refl }
 
--- what two comparisons in a row say
+-- what one comparison followed by another says
 then_say : (o p : Ordering) {P E Q F P' E' Q' : Type 0} → (E → F) → Says o P E Q → (E → Says p P' E' Q') → Says (ordering_then o p) (P ⊎ (E × P')) (E × E') (Q ⊎ (F × Q'))
 then_say Less p back m n = record { fact = inl m.fact }
 then_say Equal Less back m n = record { fact = inr (m.fact, (n m.fact).fact) }
@@ -216,7 +216,7 @@ mutual
 pub datum_cmp-says : (a b : Datum) → MatchOrdering (datum_cmp a b) (IsBelow a b) (a ≡ b) (IsBelow b a)
 datum_cmp-says a b = (says a b).fact
 
--- one comparison that says less, or equal terms and a second one that does
+-- a comparison is Less if it says so itself, or if the terms are equal and a second comparison is Less
 then_less : (a b : Datum) (o : Ordering) {P Q : Type 0} → (P → datum_cmp a b ≡ Less) → (Q → o ≡ Less) → P ⊎ ((a ≡ b) × Q) → ordering_then (datum_cmp a b) o ≡ Less
 then_less a b o f g (inl h) = rw (f h)
 then_less a b o f g (inr h) = rw (datum_cmp-same h.0) (g h.1)
@@ -246,7 +246,7 @@ entries_less a b keys values (inr h) = rw (keys_equal a b h.0) (values h.1)
 mutual
   unfolding datum_cmp IsBelow
 
-  -- what stands before is less
+  -- a term that is below another compares as Less
   pub IsBelow-less : (a b : Datum) → IsBelow a b → datum_cmp a b ≡ Less
   IsBelow-less (integer a) (integer b) h = sym (int_cmp_is a b Less h)
   IsBelow-less (atom a) (atom b) h = text_less a b h
@@ -272,7 +272,7 @@ mutual
   values_less (entry k a ds) no_entries h = absurd h
   values_less (entry k a ds) (entry l b es) h = then_less a b (values_cmp ds es) (IsBelow-less a b) (values_less ds es) h
 
--- terms of two kinds go by their kinds
+-- terms of two kinds compare as their kinds do
 pub datum_cmp-kinds : (a b : Datum) → nat_cmp (rank a) (rank b) ≢ Equal → nat_cmp (rank a) (rank b) ≡ datum_cmp a b
 unfolding datum_cmp
 datum_cmp-kinds (integer a) (integer b) h = absurd (h refl)
@@ -284,7 +284,7 @@ datum_cmp-kinds (cons a d) (cons b e) h = absurd (h refl)
 datum_cmp-kinds (binary a) (binary b) h = absurd (h refl)
 datum_cmp-kinds a b h = refl
 
--- terms that the order does not tell apart are the same
+-- terms that compare as Equal are the same term
 pub datum_cmp-equal : (a b : Datum) → datum_cmp a b ≡ Equal → a ≡ b
 datum_cmp-equal a b e = rw e at (datum_cmp-says a b)
 

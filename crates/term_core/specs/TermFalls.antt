@@ -5,26 +5,23 @@ use Rattle.std.specs.declared.alloc.Allocator as allocator
 use denote.Param.Weighed.{most}
 use Rattle.term_core.specs.declared.term.Shape.{Shape}
 use Rattle.term_core.specs.declared.term.Shape.TheVariants as shape
-use Rattle.term_core.specs.ShortRow.{row_items}
-use Rattle.term_core.specs.declared.term.short_row.ShortRow.{ShortRow}
-use Rattle.term_core.specs.declared.term.short_row.ShortRow.TheVariants as row
-use Rattle.term_core.specs.declared.term.Term.TheDeep.{deep-Shape, deep-Cells, deep-ShortRow}
+use Rattle.term_core.specs.declared.term.Term.TheDeep.{deep-Shape, deep-Cells}
 use Rattle.term_core.specs.Datum.{Datum, items_of, entries_of, cells, IsNoList}
 use Rattle.term_core.specs.Datum.Datum.{integer, atom, tuple, map, nil, cons, binary}
 use Rattle.term_core.specs.Limits.{depth, tail_depth, items_depth, entries_depth}
 use Rattle.term_core.specs.Term.{datum_of, IsKept, IsRest, IsTail, tail_of}
 
--- the depth at the end of elements
+-- the tail depth of a list of these elements and this tail
 pub tail_depth-cells : (ds : List Datum) (tail : Datum) → tail_depth (cells ds tail) ≡ max (items_depth (items_of ds)) (tail_depth tail)
 tail_depth-cells [] tail = omega arith
 tail_depth-cells (d ∷ ds) tail = omega (arith, tail_depth-cells ds tail)
 
--- a list is one deeper than its elements and its tail
+-- a list is one deeper than the deepest of its elements and its tail
 pub depth-cells : (ds : List Datum) (tail : Datum) → 0 < length ds → depth (cells ds tail) ≡ suc (max (items_depth (items_of ds)) (tail_depth tail))
 depth-cells [] tail h = absurd (omega arith)
 depth-cells (d ∷ ds) tail h = omega (arith, tail_depth-cells ds tail)
 
--- a tail that is no list counts by its own depth
+-- the tail depth of what is no list is its depth
 pub tail_depth-no_list : (d : Datum) → IsNoList d → tail_depth d ≡ depth d
 tail_depth-no_list (integer z) h = refl
 tail_depth-no_list (atom cs) h = refl
@@ -57,29 +54,24 @@ cells_fall : {A : Type 0} (G : allocator.Ghosts A) (elements : Vec Datum A) (t :
 cells_fall G elements None some tail = let e = list_falls elements.items None some tail in omega arith
 cells_fall G elements (Some d) some tail = let e = list_falls elements.items (Some d) some tail in omega arith
 
--- where something is left there was something
+-- where a rest has elements, the list has elements
 pub some_dropped : (n : ℕ) (ds : List Datum) → 0 < length (drop n ds) → 0 < length ds
 some_dropped zero ds some = some
 some_dropped (suc n) [] some = some
 some_dropped (suc n) (d ∷ ds) some = omega arith
 
--- a rest keeps the elements in front of it, so it has to be as deep as the list
+-- a rest keeps the elements before it, so it has to be as deep as the list
 rest_falls : {A : Type 0} (G : allocator.Ghosts A) (n kept : ℕ) (elements : Vec Datum A) (t : Option Datum) → IsRest kept n elements.items t → deep-Cells A G (record { elements = elements; tail = t }) ≤ depth (cells (drop n elements.items) (tail_of t))
 rest_falls G n kept elements t rest =
     let e = cells_fall G elements t (some_dropped n elements.items rest.0.1) rest.0.2 in
     omega (arith, rest.0.0, rest.1)
 
-row_falls : {A : Type 0} (G : allocator.Ghosts A) (r : ShortRow A) → deep-ShortRow A G r ≤ suc (items_depth (items_of (row_items r)))
-row_falls G (row.One ds) = let e = items_fall ds in omega arith
-row_falls G (row.Two ds) = let e = items_fall ds in omega arith
-row_falls G (row.Three ds) = let e = items_fall ds in omega arith
-row_falls G (row.Four ds) = let e = items_fall ds in omega arith
-
--- no part is as deep as the term
+-- no part of a shape is as deep as the term
 pub parts_fall : {A : Type 0} (G : allocator.Ghosts A) (s : Shape A) → IsKept s → max (deep-Shape A G s) 0 ≤ depth (datum_of s)
 parts_fall G (shape.Integer z) h = omega arith
 parts_fall G shape.Nil h = omega arith
-parts_fall G (shape.Short n cs) h = omega arith
+parts_fall G (shape.ShortAtom n bs) h = omega arith
+parts_fall G (shape.MiddleAtom n b) h = omega arith
 parts_fall G (shape.Atom b) h = omega arith
 parts_fall G shape.Unit h = omega arith
 parts_fall G (shape.TupleOfOne d b) h = let e = items_fall b.value in omega arith
@@ -87,10 +79,18 @@ parts_fall G (shape.TupleOfTwo d b) h = let e = items_fall b.value in omega arit
 parts_fall G (shape.TupleOfThree d b) h = let e = items_fall b.value in omega arith
 parts_fall G (shape.TupleOfFour d b) h = let e = items_fall b.value in omega arith
 parts_fall G (shape.Tuple d b) h = let e = items_fall b.value.items in omega arith
-parts_fall G (shape.ShortList d b) h =
-    let e = row_falls G b.value in omega (arith, depth-cells (row_items b.value) nil h.1)
+parts_fall G (shape.ListOfOne d b) h = let e = items_fall b.value in omega (arith, depth-cells b.value nil h.1)
+parts_fall G (shape.ListOfTwo d b) h = let e = items_fall b.value in omega (arith, depth-cells b.value nil h.1)
+parts_fall G (shape.ListOfThree d b) h = let e = items_fall b.value in omega (arith, depth-cells b.value nil h.1)
+parts_fall G (shape.ListOfFour d b) h = let e = items_fall b.value in omega (arith, depth-cells b.value nil h.1)
 parts_fall G (shape.List d b) h = let e = cells_fall G b.value.elements b.value.tail h.1 h.2 in omega arith
 parts_fall G (shape.Rest d n b) h = let e = rest_falls G n d b.value.elements b.value.tail h in omega arith
 parts_fall G (shape.MapOfOne d b) h = omega arith
+parts_fall G (shape.MapOfTwo d b) h = let e = entries_fall b.value in omega arith
+parts_fall G (shape.MapOfThree d b) h = let e = entries_fall b.value in omega arith
+parts_fall G (shape.MapOfFour d b) h = let e = entries_fall b.value in omega arith
 parts_fall G (shape.Map d b) h = let e = entries_fall b.value.items in omega arith
+parts_fall G (shape.ShortBinary n bs) h = omega arith
+parts_fall G (shape.MiddleBinary n b) h = omega arith
+parts_fall G (shape.LargeBinary n b) h = omega arith
 parts_fall G (shape.Binary b) h = omega arith

@@ -5,7 +5,7 @@ use thiserror::Error;
 /// Why a term can't be made.
 #[derive(Clone, Copy, Debug, PartialEq, Eq, Error)]
 pub enum Fault {
-    /// No memory was given.
+    /// An allocation failed.
     #[error("out of memory")]
     Memory,
     /// The term would be deeper than `MAX_DEPTH`.
@@ -14,7 +14,7 @@ pub enum Fault {
     /// An atom, a tuple, a map, a list or a binary would be longer than its limit.
     #[error("the term is too long")]
     TooLong,
-    /// A key stands twice in a map.
+    /// A key occurs twice in a map.
     #[error("a key stands twice in a map")]
     DuplicateKey,
 }
@@ -24,7 +24,7 @@ impl Fault {
     ghost use Rattle.term_core.specs.FaultNumbers.{number_of};
     ghost use Rattle.term_core.specs.declared.fault.Fault.TheVariants.{Memory};
 
-    /// The number that the fault has in what programs print.
+    /// Returns the number, from 1 to 4, that programs print for the fault.
     pub const fn number(self) -> u8
         ensures { result ≡ number_of self }
     {
@@ -36,7 +36,7 @@ impl Fault {
         }
     }
 
-    /// The library's error for want of memory, which the fault has to be.
+    /// Converts `Fault::Memory` into the library's `AllocError`. Requires that the fault is `Fault::Memory`.
     pub fn alloc_error(self) -> AllocError
         requires { self ≡ Memory }
     {
@@ -47,7 +47,7 @@ impl Fault {
     }
 }
 
-/// A value that was moved into a call that refused it, and why.
+/// A value that was moved into a call that failed, handed back with the reason.
 #[derive(Debug, Drop)]
 pub struct Refused<T, F = Fault> {
     /// What the call was given.

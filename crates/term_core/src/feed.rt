@@ -1,18 +1,19 @@
-//! Hashing by what a term is made of.
+//! Feeding a term to a hasher, part by part.
 ghost use Rattle.std.specs.Prelude.{◌≡◌, ◌<◌, ◌++◌, length};
 ghost use Rattle.std.specs.Option.{option_copied};
 ghost use Rattle.std.specs.Hash as fed;
+ghost use Rattle.std.specs.Str.{chars};
 ghost use Rattle.term_core.specs.Datum.{items_of, entries_of, cells};
 ghost use Rattle.term_core.specs.Datum.Datum.{atom, tuple, map, binary};
 ghost use Rattle.term_core.specs.Fed.{Feeds, kind_word, characters_fed, term_fed, items_fed, entries_fed};
 ghost use Rattle.term_core.specs.Term.{tail_of, IsTail};
 
-use crate::term::Term;
+use crate::term::{Term, text_length};
 use crate::view::View;
 use std::alloc::Allocator;
 use std::hash::{Hash, Hasher};
 
-/// One word of a kind and of how many there are.
+/// Returns one word, modulo 2^64, of the number of a kind and a count of parts.
 fn kind_word(kind: u64, count: usize) -> u64
     ensures { result ≡ kind_word kind count }
 {
@@ -25,19 +26,19 @@ fn feed_kind<H: Hasher>(kind: u64, count: usize, state: &mut H)
     state.write_u64(kind_word(kind, count));
 }
 
-fn feed_characters<H: Hasher>(characters: &[char], state: &mut H)
-    ensures { Feeds H.write state.old state.new (characters_fed characters.now) }
+fn feed_characters<H: Hasher>(text: &str, state: &mut H)
+    ensures { Feeds H.write state.old state.new (characters_fed (chars text.now)) }
 {
-    for character in characters {
-        state.write_u32(u32::from(*character));
+    for character in text.chars() {
+        state.write_u32(u32::from(character));
     }
 }
 
-fn feed_atom<H: Hasher>(characters: &[char], state: &mut H)
-    ensures { Feeds H.write state.old state.new (term_fed (atom characters.now)) }
+fn feed_atom<H: Hasher>(text: &str, state: &mut H)
+    ensures { Feeds H.write state.old state.new (term_fed (atom (chars text.now))) }
 {
-    feed_kind(1, characters.len(), state);
-    feed_characters(characters, state);
+    feed_kind(1, text_length(text), state);
+    feed_characters(text, state);
 }
 
 fn feed_binary<H: Hasher>(bytes: &[u8], state: &mut H)
@@ -47,7 +48,7 @@ fn feed_binary<H: Hasher>(bytes: &[u8], state: &mut H)
     state.write(bytes);
 }
 
-/// Feeds a term.
+/// Feeds a term to the hasher.
 #[cycle(feed)]
 #[tactic(auto, unfolding(crate::specs::Fed::term_fed))]
 fn feed<A: Allocator, H: Hasher>(term: &Term<A>, state: &mut H)
@@ -55,7 +56,7 @@ fn feed<A: Allocator, H: Hasher>(term: &Term<A>, state: &mut H)
 {
     match term.view() {
         View::Integer(value) => state.write_i64(value),
-        View::Atom(characters) => feed_atom(characters, state),
+        View::Atom(text) => feed_atom(text, state),
         View::Tuple(elements) => feed_tuple(elements, state),
         View::Map(pairs) => feed_map(pairs, state),
         View::Nil => feed_kind(4, 0, state),
@@ -83,7 +84,7 @@ fn feed_tuple<A: Allocator, H: Hasher>(elements: &[Term<A>], state: &mut H)
     feed_elements(elements, state);
 }
 
-/// Feeds a key and its value.
+/// Feeds a key and then its value to the hasher.
 #[cycle(feed)]
 #[tactic(auto, unfolding(crate::specs::Fed::term_fed))]
 fn feed_pair<A: Allocator, H: Hasher>(pair: &(Term<A>, Term<A>), state: &mut H)
@@ -112,7 +113,8 @@ fn feed_map<A: Allocator, H: Hasher>(pairs: &[(Term<A>, Term<A>)], state: &mut H
     feed_pairs(pairs, state);
 }
 
-/// Feeds a list of these elements, of which there is one, and this tail.
+/// Feeds a list to the hasher: its kind and its number of elements, the elements, and the tail. There is at least one
+/// element.
 #[cycle(feed)]
 #[tactic(auto, unfolding(crate::specs::Fed::term_fed))]
 fn feed_list<A: Allocator, H: Hasher>(elements: &[Term<A>], tail: Option<&Term<A>>, state: &mut H)
@@ -126,7 +128,7 @@ fn feed_list<A: Allocator, H: Hasher>(elements: &[Term<A>], tail: Option<&Term<A
     feed_tail(tail, state);
 }
 
-/// Feeds a list's tail.
+/// Feeds the tail of a list to the hasher; no tail is fed as `[]`.
 #[cycle(feed)]
 #[tactic(auto, unfolding(crate::specs::Fed::term_fed))]
 fn feed_tail<A: Allocator, H: Hasher>(tail: Option<&Term<A>>, state: &mut H)

@@ -1,7 +1,8 @@
-//! The hash of a key.
+//! The hash of a term as a key.
 ghost use Rattle.std.specs.Prelude.{◌≡◌, ◌<◌, length};
 ghost use Rattle.std.specs.Int.{w64, cast_unsigned};
 ghost use Rattle.std.specs.Option.{option_copied};
+ghost use Rattle.std.specs.Str.{chars};
 ghost use Rattle.term_core.specs.Datum.{items_of, entries_of, cells};
 ghost use Rattle.term_core.specs.KeyHash.{mix as mix_of, mix_all, key_hash, mix_items, mix_entries, mix_cells};
 ghost use Rattle.term_core.specs.Term.{tail_of, IsTail};
@@ -10,22 +11,22 @@ use crate::term::Term;
 use crate::view::View;
 use std::alloc::Allocator;
 
-/// What a hash is multiplied by before a part is mixed in.
+/// The number by which a hash is multiplied before a part is mixed in.
 const FACTOR: u64 = 1_099_511_628_211;
 
-/// A hash so far, and what is mixed into it.
+/// Returns a hash with one more part mixed in, modulo 2^64.
 fn mix(hash: u64, part: u64) -> u64
     ensures { result ≡ mix_of hash part }
 {
     hash.wrapping_mul(FACTOR).wrapping_add(part)
 }
 
-fn mix_characters(hash: u64, characters: &[char]) -> u64
-    ensures { result ≡ mix_all hash characters.now }
+fn mix_characters(hash: u64, text: &str) -> u64
+    ensures { result ≡ mix_all hash (chars text.now) }
 {
     let mut mixed = hash;
-    for character in characters {
-        mixed = mix(mixed, u64::from(*character));
+    for character in text.chars() {
+        mixed = mix(mixed, u64::from(character));
     }
     mixed
 }
@@ -46,7 +47,7 @@ fn hash_of_integer(value: i64) -> u64
     value.cast_unsigned()
 }
 
-/// The hash of a key.
+/// Returns the hash of a term as a key.
 #[cycle(hash)]
 #[tactic(auto, unfolding(crate::specs::KeyHash::key_hash))]
 pub(crate) fn hash_of<A: Allocator>(term: &Term<A>) -> u64
@@ -54,7 +55,7 @@ pub(crate) fn hash_of<A: Allocator>(term: &Term<A>) -> u64
 {
     match term.view() {
         View::Integer(value) => hash_of_integer(value),
-        View::Atom(characters) => mix_characters(1, characters),
+        View::Atom(text) => mix_characters(1, text),
         View::Tuple(elements) => mix_elements(2, elements),
         View::Map(pairs) => mix_pairs(3, pairs),
         View::Nil => 4,
@@ -89,7 +90,7 @@ fn mix_pairs<A: Allocator>(hash: u64, pairs: &[(Term<A>, Term<A>)]) -> u64
     mixed
 }
 
-/// The hash of a list of these elements, of which there is one, and this tail.
+/// Returns the hash of a list with these elements and this tail. There is at least one element.
 #[cycle(hash)]
 #[tactic(auto, unfolding(crate::specs::KeyHash::key_hash))]
 fn mix_list<A: Allocator>(elements: &[Term<A>], tail: Option<&Term<A>>) -> u64
@@ -100,7 +101,7 @@ fn mix_list<A: Allocator>(elements: &[Term<A>], tail: Option<&Term<A>>) -> u64
     mix(mix_elements(5, elements), hash_of_tail(tail))
 }
 
-/// The hash of a list's tail.
+/// Returns the hash of the tail of a list; no tail has the hash of `[]`.
 #[cycle(hash)]
 #[tactic(auto, unfolding(crate::specs::KeyHash::key_hash))]
 fn hash_of_tail<A: Allocator>(tail: Option<&Term<A>>) -> u64
@@ -114,7 +115,7 @@ fn hash_of_tail<A: Allocator>(tail: Option<&Term<A>>) -> u64
 }
 
 impl<A: Allocator> Term<A> {
-    /// The hash of the term as a key, a number modulo 2^64. Terms that are equal have one hash.
+    /// Returns the hash of the term as a key, a number modulo 2^64. Equal terms have equal hashes.
     pub fn key_hash(&self) -> u64
         ensures { result ≡ key_hash self.now }
     {

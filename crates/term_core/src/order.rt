@@ -1,7 +1,9 @@
 //! The order of terms, and equality and hashing by it.
 ghost use Rattle.std.specs.Prelude.{◌≡◌, length};
 ghost use Rattle.std.specs.Option.{option_copied};
-ghost use Rattle.std.specs.Ordering.{int_cmp};
+ghost use Rattle.std.specs.Cmp.Lexicographic.{slice_cmp};
+ghost use Rattle.std.specs.Ordering.{int_cmp, nat_cmp};
+ghost use Rattle.std.specs.Str.{chars};
 ghost use Rattle.term_core.specs.Datum.{items_of, entries_of, cells};
 ghost use Rattle.term_core.specs.Datum.Datum.{tuple, map};
 ghost use Rattle.term_core.specs.Order.{rank as rank_of, datum_cmp, items_cmp, keys_cmp, values_cmp};
@@ -12,7 +14,7 @@ use crate::view::{LIST_RANK, NIL_RANK, View};
 use std::alloc::Allocator;
 use std::cmp::Ordering;
 
-/// Where a term's kind stands among the kinds.
+/// Returns the rank of a term's kind in the order of kinds, from 0 to 6.
 #[inline(always)]
 fn rank<A: Allocator>(term: &Term<A>) -> u8
     ensures { result ≡ rank_of term.now }
@@ -20,7 +22,7 @@ fn rank<A: Allocator>(term: &Term<A>) -> u8
     term.view().rank()
 }
 
-/// Where the kind of a list's tail stands among the kinds.
+/// Returns the rank of the kind of a list's tail; no tail has the rank of `[]`.
 fn tail_rank<A: Allocator>(tail: Option<&Term<A>>) -> u8
     ensures { result ≡ rank_of (tail_of (option_copied tail.entry)) }
 {
@@ -30,14 +32,21 @@ fn tail_rank<A: Allocator>(tail: Option<&Term<A>>) -> u8
     }
 }
 
-/// Which of two integers stands first.
+/// Compares two integers by value.
 pub(crate) fn compare_integers(a: i64, b: i64) -> Ordering
     ensures { result ≡ int_cmp a b }
 {
     a.cmp(&b)
 }
 
-/// Which of two terms stands first.
+/// Compares two texts by their characters, from the left. UTF-8 has the same order by its bytes.
+pub fn compare_texts(a: &str, b: &str) -> Ordering
+    ensures { result ≡ slice_cmp nat_cmp (chars a.now) (chars b.now) }
+{
+    a.cmp(b)
+}
+
+/// Compares two terms in the order of terms.
 #[cycle(compare)]
 pub(crate) fn compare<A: Allocator>(a: &Term<A>, b: &Term<A>) -> Ordering
     ensures { result ≡ datum_cmp a.now b.now }
@@ -48,7 +57,7 @@ pub(crate) fn compare<A: Allocator>(a: &Term<A>, b: &Term<A>) -> Ordering
     }
 }
 
-/// Which of two terms of one kind stands first.
+/// Compares two terms of the same kind.
 #[cycle(compare)]
 fn compare_alike<A: Allocator>(a: &Term<A>, b: &Term<A>) -> Ordering
     requires { rank_of a.now ≡ rank_of b.now }
@@ -56,7 +65,7 @@ fn compare_alike<A: Allocator>(a: &Term<A>, b: &Term<A>) -> Ordering
 {
     match (a.view(), b.view()) {
         (View::Integer(a), View::Integer(b)) => compare_integers(a, b),
-        (View::Atom(a), View::Atom(b)) => a.cmp(b),
+        (View::Atom(a), View::Atom(b)) => compare_texts(a, b),
         (View::Tuple(a), View::Tuple(b)) => compare_tuples(a, b),
         (View::Map(a), View::Map(b)) => compare_maps(a, b),
         (View::List(a, a_tail), View::List(b, b_tail)) => compare_lists(a, a_tail, b, b_tail),
@@ -65,7 +74,7 @@ fn compare_alike<A: Allocator>(a: &Term<A>, b: &Term<A>) -> Ordering
     }
 }
 
-/// Which of two tuples stands first.
+/// Compares two tuples: by size, then by elements.
 #[cycle(compare)]
 fn compare_tuples<A: Allocator>(a: &[Term<A>], b: &[Term<A>]) -> Ordering
     ensures { result ≡ datum_cmp (tuple (items_of a.now)) (tuple (items_of b.now)) }
@@ -76,7 +85,7 @@ fn compare_tuples<A: Allocator>(a: &[Term<A>], b: &[Term<A>]) -> Ordering
     }
 }
 
-/// Which of two rows of as many elements stands first.
+/// Compares two equally long rows of terms from the left: the first elements that differ decide.
 #[cycle(compare)]
 fn compare_items<A: Allocator>(a: &[Term<A>], b: &[Term<A>]) -> Ordering
     requires { length a.now ≡ length b.now }
@@ -91,7 +100,7 @@ fn compare_items<A: Allocator>(a: &[Term<A>], b: &[Term<A>]) -> Ordering
     Ordering::Equal
 }
 
-/// Which of two maps stands first.
+/// Compares two maps: by size, then by keys, then by values.
 #[cycle(compare)]
 fn compare_maps<A: Allocator>(a: &[(Term<A>, Term<A>)], b: &[(Term<A>, Term<A>)]) -> Ordering
     ensures { result ≡ datum_cmp (map (entries_of a.now)) (map (entries_of b.now)) }
@@ -102,7 +111,7 @@ fn compare_maps<A: Allocator>(a: &[(Term<A>, Term<A>)], b: &[(Term<A>, Term<A>)]
     }
 }
 
-/// Which of two maps of one size stands first.
+/// Compares two maps of the same size: by keys, then by values.
 #[cycle(compare)]
 fn compare_entries<A: Allocator>(a: &[(Term<A>, Term<A>)], b: &[(Term<A>, Term<A>)]) -> Ordering
     requires { length a.now ≡ length b.now }
@@ -114,7 +123,7 @@ fn compare_entries<A: Allocator>(a: &[(Term<A>, Term<A>)], b: &[(Term<A>, Term<A
     }
 }
 
-/// Which of two rows of as many keys stands first.
+/// Compares the keys of two equally long rows of pairs from the left.
 #[cycle(compare)]
 fn compare_keys<A: Allocator>(a: &[(Term<A>, Term<A>)], b: &[(Term<A>, Term<A>)]) -> Ordering
     requires { length a.now ≡ length b.now }
@@ -129,7 +138,7 @@ fn compare_keys<A: Allocator>(a: &[(Term<A>, Term<A>)], b: &[(Term<A>, Term<A>)]
     Ordering::Equal
 }
 
-/// Which of two rows of as many values stands first.
+/// Compares the values of two equally long rows of pairs from the left.
 #[cycle(compare)]
 fn compare_values<A: Allocator>(a: &[(Term<A>, Term<A>)], b: &[(Term<A>, Term<A>)]) -> Ordering
     requires { length a.now ≡ length b.now }
@@ -144,7 +153,7 @@ fn compare_values<A: Allocator>(a: &[(Term<A>, Term<A>)], b: &[(Term<A>, Term<A>
     Ordering::Equal
 }
 
-/// Which of two lists, each of its elements and its tail, stands first.
+/// Compares two lists, each given by its elements and its tail.
 #[cycle(compare)]
 fn compare_lists<A: Allocator>(
     a: &[Term<A>],
@@ -173,7 +182,7 @@ fn compare_lists<A: Allocator>(
     compare_tails(a_tail, b_tail)
 }
 
-/// Which of two tails of lists stands first.
+/// Compares the tails of two lists; no tail counts as `[]`.
 #[cycle(compare)]
 fn compare_tails<A: Allocator>(a: Option<&Term<A>>, b: Option<&Term<A>>) -> Ordering
     requires a { IsTail (option_copied a) }
@@ -210,7 +219,7 @@ impl<A: Allocator> Eq for Term<A> {
     ghost laws = { eq_by_cmp_equiv datum_cmp_total };
 }
 
-/// Which of two terms stands first. Integers are compared at once.
+/// Compares two terms in the order of terms. Two integers are compared without looking at kinds.
 #[inline(always)]
 fn order_of<A: Allocator>(a: &Term<A>, b: &Term<A>) -> Ordering
     ensures { result ≡ datum_cmp a.now b.now }

@@ -1,22 +1,24 @@
-//! The type of terms.
+//! The type of terms, and how terms are made and read.
 ghost use Rattle.std.specs.Prelude.{◌≡◌, ◌<◌, ◌≤◌, ◌++◌, ◌∷◌, [], None, Some, length, take, IfOk, IfErr, IfSome, IsSome, OnOk};
 ghost use Rattle.std.specs.Option.{option_copied};
 ghost use Rattle.term_core.specs.Datum.{items_of, cells as cells_of, cell_count};
-ghost use Rattle.term_core.specs.Datum.Datum.{atom, nil};
-ghost use Rattle.term_core.specs.Term.{tail_of, datum_of, padded, IsTail, IsList, IsKept};
+ghost use Rattle.term_core.specs.Datum.Datum.{nil};
+ghost use Rattle.term_core.specs.Term.{tail_of, datum_of, few_items, IsTail, IsList, IsKept, IsFew};
 ghost use Rattle.term_core.specs.ListParts.{HandsBack};
-ghost use Rattle.term_core.specs.ShortRow.{row_items};
 ghost use Rattle.term_core.specs.Fault.{IsFault, IsDepthOf};
-ghost use Rattle.term_core.specs.Limits.{IsTerm, IsSound, tail_depth, depth as depth_of, items_depth, AreSound, AreBytes, AreScalars};
+ghost use Rattle.term_core.specs.Limits.{IsTerm, IsSound, tail_depth, depth as depth_of, items_depth, AreSound};
 
 use crate::fault::{Fault, Refused};
 use crate::view::View;
-use crate::{MAX_BINARY, MAX_CHARACTERS, MAX_DEPTH, MAX_LIST, MAX_TUPLE};
+use crate::{MAX_DEPTH, MAX_LIST, MAX_TUPLE};
 use std::alloc::{AllocError, Allocator, Global};
 use std::marker::Model;
+use std::mem::size_of;
 use std::slice;
 use std::sync::Arc;
 
+mod binary;
+mod bytes;
 mod copy;
 mod map;
 mod pairs;
@@ -25,48 +27,78 @@ mod same;
 mod short_row;
 mod text;
 
+use bytes::{front, front_text};
 pub use pairs::neighbours_differ;
 use rest::{behind, prepended_to_rest};
 pub use same::is_same;
 pub use short_row::ShortRow;
+pub(crate) use text::text_length;
 
 /// A term: an integer, an atom, a tuple, a list, a map or a binary.
 #[cycle(term)]
-#[derive(Drop)]
 pub struct Term<A: Allocator = Global> {
     shape: Shape<A>,
 }
 
-/// The most characters of an atom that needs no memory.
-const SHORT: usize = 3;
-/// What stands where such an atom has no character.
-const NONE: char = '\0';
+/// Written by hand, so that the proof of a function that drops a term has one call there, and not a case for each shape.
+impl<A: Allocator> Drop for Term<A> {
+    #[cycle(term)]
+    #[inline(always)]
+    fn drop(self) {
+        let Term { shape } = self;
+        drop(shape);
+    }
+}
 
-/// What a term is, each kind that holds terms with its depth. Copies share what they hold. A short atom stands here
-/// itself, so many of these characters, `{}` holds nothing, and the shortest tuples, lists and maps may hold what is in
-/// them without a row of their own. What is left of a list behind so many elements may share them with the list.
+/// The largest number of bytes of an atom or a binary that is stored in the term itself, without an allocation.
+const SHORT: usize = 14;
+/// The largest number of bytes of an atom or a binary that is stored in one block of that size.
+const MIDDLE: usize = 32;
+/// The largest number of bytes of a binary that is stored in one block of that size.
+const LARGE: usize = 48;
+
+/// The representation of a term. Each kind that can contain terms has its depth, except `Unit`, which is `{}`. Copies
+/// share what is allocated.
+///
+/// An atom is UTF-8. It is in the term itself (`ShortAtom`), in one block, or in a string: it has the smallest of these
+/// forms. A number of bytes precedes a row that may have more room; zeros follow the bytes in the term itself. The
+/// shortest tuples, lists and maps are one block of their own size. A `Rest` is what remains of a list after its first
+/// elements: it has their number, and shares the elements with the list.
 #[cycle(term)]
 #[derive(Drop)]
 enum Shape<A: Allocator> {
     Integer(i64),
     Nil,
-    Short(u8, [char; SHORT]),
-    Atom(Arc<Vec<char, A>, A>),
+    ShortAtom(u8, [u8; SHORT]),
+    MiddleAtom(u8, Arc<[u8; MIDDLE], A>),
+    Atom(Arc<String<A>, A>),
     Unit,
     TupleOfOne(u8, Arc<[Term<A>; 1], A>),
     TupleOfTwo(u8, Arc<[Term<A>; 2], A>),
     TupleOfThree(u8, Arc<[Term<A>; 3], A>),
     TupleOfFour(u8, Arc<[Term<A>; 4], A>),
     Tuple(u8, Arc<Vec<Term<A>, A>, A>),
-    ShortList(u8, Arc<ShortRow<A>, A>),
+    ListOfOne(u8, Arc<[Term<A>; 1], A>),
+    ListOfTwo(u8, Arc<[Term<A>; 2], A>),
+    ListOfThree(u8, Arc<[Term<A>; 3], A>),
+    ListOfFour(u8, Arc<[Term<A>; 4], A>),
     List(u8, Arc<Cells<A>, A>),
     Rest(u8, u32, Arc<Cells<A>, A>),
     MapOfOne(u8, Arc<(Term<A>, Term<A>), A>),
+    MapOfTwo(u8, Arc<[(Term<A>, Term<A>); 2], A>),
+    MapOfThree(u8, Arc<[(Term<A>, Term<A>); 3], A>),
+    MapOfFour(u8, Arc<[(Term<A>, Term<A>); 4], A>),
     Map(u8, Arc<Vec<(Term<A>, Term<A>), A>, A>),
+    ShortBinary(u8, [u8; SHORT]),
+    MiddleBinary(u8, Arc<[u8; MIDDLE], A>),
+    LargeBinary(u8, Arc<[u8; LARGE], A>),
     Binary(Arc<Vec<u8, A>, A>),
 }
 
-/// The elements of a list that is not empty, and its tail where that is no list.
+// A term takes 16 bytes.
+const _: () = prove!(size_of::<Term<Global>>() == 16);
+
+/// The elements of a list that is not empty, and its tail if it is not `[]`. The tail is never a list.
 #[cycle(term)]
 #[derive(Drop)]
 struct Cells<A: Allocator> {
@@ -74,12 +106,12 @@ struct Cells<A: Allocator> {
     tail: Option<Term<A>>,
 }
 
-/// What a list is made of, as a refused call hands it back.
+/// The parts of a list, handed back by a call that failed to make it.
 #[derive(Drop)]
 pub struct ListParts<A: Allocator = Global> {
     /// The elements.
     pub elements: Vec<Term<A>, A>,
-    /// What follows them.
+    /// The tail, if there is one.
     pub tail: Option<Term<A>>,
 }
 
@@ -105,7 +137,7 @@ impl<A: Allocator> Model for Term<A> {
     ghost size_decreases = { λ t h. parts_fall A.Allocator t.shape h.1 };
 }
 
-/// A value put where copies share it, or handed back for want of memory.
+/// Moves a value into shared memory. Hands it back if the allocation fails.
 fn shared<T, A: Allocator>(alloc: A, value: T) -> Result<Arc<T, A>, Refused<T>>
     ensures ok { IfOk result (λ b. b.value ≡ value) }
     ensures refused { IfErr result (λ r. (r.value ≡ value) × (r.fault ≡ Fault.Memory)) }
@@ -116,72 +148,7 @@ fn shared<T, A: Allocator>(alloc: A, value: T) -> Result<Arc<T, A>, Refused<T>>
     })
 }
 
-/// How many characters these are.
-fn character_count(characters: &[char]) -> usize
-    ensures count { result ≡ length characters.now }
-    ensures sound { AreScalars characters.now }
-{
-    let mut count = 0;
-    for character in characters {
-        // Read for the proof, which knows a character that was read to be a scalar value.
-        let _read = *character;
-        count += 1;
-    }
-    count
-}
-
-/// The atom of so many of three characters.
-fn atom_of_three<A: Allocator>(count: u8, first: char, second: char, third: char) -> Shape<A>
-    requires few { count ≤ 3 }
-    requires padded { first ∷ second ∷ third ∷ []
-        ≡ padded (take count (first ∷ second ∷ third ∷ [])) }
-    ensures value { datum_of result ≡ atom (take count (first ∷ second ∷ third ∷ [])) }
-    ensures kept { IsKept result }
-{
-    Shape::Short(count, [first, second, third])
-}
-
-/// The atom of these characters where they are few enough to stand in the term itself.
-fn short_atom<A: Allocator>(characters: &[char]) -> Option<Shape<A>>
-    ensures value { IfSome result (λ s. datum_of s ≡ atom characters.now) }
-    ensures kept { IfSome result (λ s. IsKept s) }
-    ensures some { (length characters.now ≤ 3) → IsSome result }
-{
-    match characters {
-        [] => Some(atom_of_three(0, NONE, NONE, NONE)),
-        [first] => Some(atom_of_three(1, *first, NONE, NONE)),
-        [first, second] => Some(atom_of_three(2, *first, *second, NONE)),
-        [first, second, third] => Some(atom_of_three(3, *first, *second, *third)),
-        _ => None,
-    }
-}
-
-/// The atom of more than three of these characters.
-fn long_atom<A: Allocator>(
-    alloc: A,
-    characters: Vec<char, A>,
-) -> Result<Term<A>, Refused<Vec<char, A>>>
-    requires within { IsTerm (atom characters.items) }
-    requires long { 3 < length characters.items }
-    ensures ok { IfOk result (λ t. t ≡ atom characters.items) }
-    ensures refused { IfErr result (λ r. (r.value.items ≡ characters.items)
-        × (r.fault ≡ Fault.Memory)) }
-{
-    let characters = shared(alloc, characters)?;
-    Ok(Term {
-        shape: Shape::Atom(characters),
-    })
-}
-
-/// How many bytes these are.
-fn byte_count(bytes: &[u8]) -> usize
-    ensures count { result ≡ length bytes.now }
-    ensures sound { AreBytes bytes.now }
-{
-    bytes.len()
-}
-
-/// The greatest depth among these terms, 0 where there is none.
+/// Returns the greatest depth of these terms, 0 if there are none.
 pub fn deepest<A: Allocator>(terms: &[Term<A>]) -> u8
     ensures value { result ≡ items_depth (items_of terms.now) }
     ensures sound { AreSound (items_of terms.now) }
@@ -193,7 +160,22 @@ pub fn deepest<A: Allocator>(terms: &[Term<A>]) -> u8
     deepest
 }
 
-/// How deep a list's elements are that go on in its tail, and the tail at their end.
+/// Returns the elements of a list of one to four, and none of another shape.
+fn few_of<A: Allocator>(shape: &Shape<A>) -> &[Term<A>]
+    ensures elements { result.now ≡ few_items shape.now }
+    ensures few { length result.now ≤ 4 }
+{
+    match shape {
+        Shape::ListOfOne(_, elements) => &elements[..],
+        Shape::ListOfTwo(_, elements) => &elements[..],
+        Shape::ListOfThree(_, elements) => &elements[..],
+        Shape::ListOfFour(_, elements) => &elements[..],
+        _ => &[],
+    }
+}
+
+/// Returns what a tail adds to the depth of its list: for a tail that is a list, the depth of its deepest element or of
+/// its own tail; for another tail, its depth; 1 without a tail.
 fn levels_of_tail<A: Allocator>(tail: &Option<Term<A>>) -> u8
     ensures value { result ≡ tail_depth (tail_of tail.now) }
     ensures sound { IsSound (tail_of tail.now) }
@@ -202,14 +184,17 @@ fn levels_of_tail<A: Allocator>(tail: &Option<Term<A>>) -> u8
         return 1;
     };
     match &tail.shape {
-        Shape::ShortList(depth, _) => *depth - 1,
+        Shape::ListOfOne(depth, _) => *depth - 1,
+        Shape::ListOfTwo(depth, _) => *depth - 1,
+        Shape::ListOfThree(depth, _) => *depth - 1,
+        Shape::ListOfFour(depth, _) => *depth - 1,
         Shape::List(depth, _) => *depth - 1,
         Shape::Rest(depth, _, _) => *depth - 1,
         _ => tail.depth(),
     }
 }
 
-/// How many elements go on in a list's tail.
+/// Returns the number of elements that a tail adds to its list, 0 if the tail is not a list.
 fn length_of_tail<A: Allocator>(tail: &Option<Term<A>>) -> usize
     ensures value { result ≡ cell_count (tail_of tail.now) }
     ensures within { result ≤ MAX_LIST }
@@ -218,14 +203,18 @@ fn length_of_tail<A: Allocator>(tail: &Option<Term<A>>) -> usize
         return 0;
     };
     match &tail.shape {
-        Shape::ShortList(_, row) => row.as_slice().len(),
+        Shape::ListOfOne(_, row) => row[..].len(),
+        Shape::ListOfTwo(_, row) => row[..].len(),
+        Shape::ListOfThree(_, row) => row[..].len(),
+        Shape::ListOfFour(_, row) => row[..].len(),
         Shape::List(_, cells) => cells.elements.len(),
         Shape::Rest(_, count, cells) => cells.elements.len() - *count as usize,
         _ => 0,
     }
 }
 
-/// How deep the list of one or more elements and a tail is, or why there is no such list.
+/// Returns the depth of the list with these elements, at least one, and this tail. Fails if it would be too deep or too
+/// long.
 fn list_depth<A: Allocator>(elements: &[Term<A>], tail: &Option<Term<A>>) -> Result<u8, Fault>
     requires { 0 < length elements.now }
     ensures ok { IfOk result (λ d. IsDepthOf d (cells_of elements.now (tail_of tail.now))) }
@@ -242,7 +231,7 @@ fn list_depth<A: Allocator>(elements: &[Term<A>], tail: &Option<Term<A>>) -> Res
     Ok(deepest + 1)
 }
 
-/// The list of one or more elements and a tail that is no list, within its limits.
+/// Makes the list of these elements, at least one, and a tail that is not a list. The list is within the limits.
 fn with_tail<A: Allocator>(
     alloc: A,
     depth: u8,
@@ -271,7 +260,8 @@ fn with_tail<A: Allocator>(
     }
 }
 
-/// Adds copies of some terms to others, and copies a tail. Those that were there stay where it is refused.
+/// Appends copies of the terms `more` to `elements`, and returns a copy of the tail. On failure, elements that were
+/// there before are unchanged, but some copies may have been appended.
 fn append_copies<A: Allocator>(
     elements: &mut Vec<Term<A>, A>,
     more: &[Term<A>],
@@ -290,7 +280,8 @@ fn append_copies<A: Allocator>(
     }
 }
 
-/// Some elements, and then copies of others and of a tail. The elements are handed back where it is refused.
+/// Makes a list's content from `elements`, followed by copies of `more` and of the tail. On failure, hands back
+/// `elements` unchanged.
 fn extended<'t, A: Allocator>(
     alloc: A,
     mut elements: Vec<Term<A>, A>,
@@ -314,7 +305,7 @@ fn extended<'t, A: Allocator>(
     Err(elements)
 }
 
-/// The list of some elements and then those of another list that others hold as well, within its limits.
+/// Prepends elements to a list that other terms share, by copying its elements. The new list is within the limits.
 fn prepended_to_shared<A: Allocator>(
     alloc: A,
     depth: u8,
@@ -356,43 +347,40 @@ fn prepended_to_shared<A: Allocator>(
     }
 }
 
-/// The list of some elements and then those of a short list, within its limits.
-fn prepended_to_row<A: Allocator>(
+/// Makes the list of `elements` followed by those of a list of one to four, which is within the limits. On failure, hands
+/// back the elements and the list.
+fn prepended_to_few<A: Allocator>(
     alloc: A,
     depth: u8,
     elements: Vec<Term<A>, A>,
-    kept: u8,
-    row: Arc<ShortRow<A>, A>,
+    few: Shape<A>,
 ) -> Result<Term<A>, Refused<ListParts<A>>>
     requires some { 0 < length elements.items }
-    requires list { IsList kept (row_items row.value) None }
-    requires list_within { IsTerm (cells_of (row_items row.value) nil) }
-    requires within { IsTerm (cells_of elements.items (cells_of (row_items row.value) nil)) }
-    requires depth { depth ≡ depth_of (cells_of elements.items
-        (cells_of (row_items row.value) nil)) }
-    ensures ok { IfOk result (λ t. t ≡ cells_of elements.items
-        (cells_of (row_items row.value) nil)) }
-    ensures refused { IfErr result (λ r. HandsBack r.value elements.items
-        (Some (cells_of (row_items row.value) nil))
+    requires list { IsFew few }
+    requires kept { IsKept few }
+    requires list_within { IsTerm (datum_of few) }
+    requires within { IsTerm (cells_of elements.items (datum_of few)) }
+    requires depth { depth ≡ depth_of (cells_of elements.items (datum_of few)) }
+    ensures ok { IfOk result (λ t. t ≡ cells_of elements.items (datum_of few)) }
+    ensures refused { IfErr result (λ r. HandsBack r.value elements.items (Some (datum_of few))
         × (r.fault ≡ Fault.Memory)) }
 {
-    match extended(alloc, elements, row.as_slice(), None) {
+    match extended(alloc, elements, few_of(&few), None) {
         Ok(cells) => Ok(Term {
             shape: Shape::List(depth, cells),
         }),
         Err(elements) => Err(Refused {
             value: ListParts {
                 elements,
-                tail: Some(Term {
-                    shape: Shape::ShortList(kept, row),
-                }),
+                tail: Some(Term { shape: few }),
             },
             fault: Fault::Memory,
         }),
     }
 }
 
-/// The list of some elements and then those of another list, within its limits.
+/// Prepends elements to a list. Moves the list's elements if no other term shares them, otherwise copies them. The new
+/// list is within the limits.
 fn prepended<A: Allocator>(
     alloc: A,
     depth: u8,
@@ -435,7 +423,7 @@ fn prepended<A: Allocator>(
     }
 }
 
-/// The list of one or more elements and a tail of this shape, within its limits.
+/// Makes the list of these elements, at least one, and a tail of this representation. The list is within the limits.
 fn joined<A: Allocator>(
     alloc: A,
     depth: u8,
@@ -453,7 +441,18 @@ fn joined<A: Allocator>(
 {
     match tail {
         Shape::Nil => with_nil(alloc, depth, elements),
-        Shape::ShortList(kept, row) => prepended_to_row(alloc, depth, elements, kept, row),
+        Shape::ListOfOne(kept, row) => {
+            prepended_to_few(alloc, depth, elements, Shape::ListOfOne(kept, row))
+        }
+        Shape::ListOfTwo(kept, row) => {
+            prepended_to_few(alloc, depth, elements, Shape::ListOfTwo(kept, row))
+        }
+        Shape::ListOfThree(kept, row) => {
+            prepended_to_few(alloc, depth, elements, Shape::ListOfThree(kept, row))
+        }
+        Shape::ListOfFour(kept, row) => {
+            prepended_to_few(alloc, depth, elements, Shape::ListOfFour(kept, row))
+        }
         Shape::List(kept, cells) => prepended(alloc, depth, elements, kept, cells),
         Shape::Rest(kept, count, cells) => {
             prepended_to_rest(alloc, depth, elements, kept, count, cells)
@@ -462,7 +461,7 @@ fn joined<A: Allocator>(
     }
 }
 
-/// The list of one or more elements and what follows them, within its limits.
+/// Makes the list of these elements, at least one, and this tail, if any. The list is within the limits.
 fn joined_to<A: Allocator>(
     alloc: A,
     depth: u8,
@@ -476,12 +475,13 @@ fn joined_to<A: Allocator>(
         × (r.fault ≡ Fault.Memory)) }
 {
     match tail {
-        Some(tail) => joined(alloc, depth, elements, tail.shape),
+        Some(tail) => joined(alloc, depth, elements, tail.into_shape()),
         None => with_tail(alloc, depth, elements, None),
     }
 }
 
-/// The list of one or more elements that `[]` was given for as the tail.
+/// Makes the list of these elements, at least one, with `[]` given explicitly as the tail. On failure, the tail handed
+/// back is `[]`.
 fn with_nil<A: Allocator>(
     alloc: A,
     depth: u8,
@@ -520,7 +520,7 @@ impl<A: Allocator> Term<A> {
     ghost use Rattle.term_core.specs.Limits.{IsTerm, depth};
     ghost use Rattle.term_core.specs.Parts.{field_of, is_tuple_of, is_map};
 
-    /// An integer.
+    /// Makes an integer.
     pub fn int(value: i64) -> Self
         ensures { result ≡ integer value }
     {
@@ -529,67 +529,25 @@ impl<A: Allocator> Term<A> {
         }
     }
 
-    /// `[]`.
+    /// Makes the empty list `[]`.
     pub fn nil() -> Self
         ensures { result ≡ nil }
     {
         Term { shape: Shape::Nil }
     }
 
-    /// The atom of these characters where they are at most three: such an atom takes no memory.
+    /// The shape of the term, which is all that it is.
     #[inline(always)]
-    pub fn short_atom(characters: &[char]) -> Option<Self>
-        ensures value { IfSome result (λ t. t ≡ atom characters.now) }
-        ensures some { (length characters.now ≤ 3) → IsSome result }
+    fn into_shape(self) -> Shape<A>
+        ensures value { datum_of result ≡ self }
+        ensures kept { IsKept result }
     {
-        if character_count(characters) > SHORT {
-            return None;
-        }
-        Some(Term {
-            shape: short_atom(characters)?,
-        })
+        let Term { shape } = self;
+        shape
     }
 
-    /// The atom of these characters. More than `MAX_CHARACTERS` are refused.
-    pub fn from_characters(
-        alloc: A,
-        characters: Vec<char, A>,
-    ) -> Result<Self, Refused<Vec<char, A>>>
-        ensures ok { IfOk result (λ t. t ≡ atom characters.items) }
-        ensures refused { IfErr result (λ r. (r.value.items ≡ characters.items)
-            × IsFault r.fault (atom characters.items)) }
-    {
-        if character_count(characters.as_slice()) > MAX_CHARACTERS {
-            return Err(Refused {
-                value: characters,
-                fault: Fault::TooLong,
-            });
-        }
-        match short_atom(characters.as_slice()) {
-            Some(shape) => Ok(Term { shape }),
-            None => long_atom(alloc, characters),
-        }
-    }
-
-    /// A binary. More than `MAX_BINARY` bytes are refused.
-    pub fn binary(alloc: A, bytes: Vec<u8, A>) -> Result<Self, Refused<Vec<u8, A>>>
-        ensures ok { IfOk result (λ t. t ≡ binary bytes.items) }
-        ensures refused { IfErr result (λ r. (r.value.items ≡ bytes.items)
-            × IsFault r.fault (binary bytes.items)) }
-    {
-        if byte_count(bytes.as_slice()) > MAX_BINARY {
-            return Err(Refused {
-                value: bytes,
-                fault: Fault::TooLong,
-            });
-        }
-        let bytes = shared(alloc, bytes)?;
-        Ok(Term {
-            shape: Shape::Binary(bytes),
-        })
-    }
-
-    /// A tuple of these elements. More than `MAX_TUPLE` are refused, and a tuple deeper than `MAX_DEPTH`.
+    /// Makes a tuple of these elements. Fails if it would be deeper than `MAX_DEPTH`, if there are more than
+    /// `MAX_TUPLE` elements, or if an allocation fails. On failure, hands the elements back.
     pub fn tuple(alloc: A, elements: Vec<Term<A>, A>) -> Result<Self, Refused<Vec<Term<A>, A>>>
         ensures ok { IfOk result (λ t. t ≡ tuple (items_of elements.items)) }
         ensures refused { IfErr result (λ r. (r.value.items ≡ elements.items)
@@ -617,9 +575,10 @@ impl<A: Allocator> Term<A> {
         })
     }
 
-    /// The list of these elements followed by a tail. A tail that is a list is joined on; without elements it is the
-    /// tail, or `[]` where there is none. More than `MAX_LIST` elements are refused, and a list deeper than
-    /// `MAX_DEPTH`.
+    /// Makes the list of these elements followed by a tail. The elements of a tail that is a list become elements of
+    /// the new list. Without elements, the result is the tail, or `[]` if there is none. Fails if the list would be
+    /// deeper than `MAX_DEPTH` or have more than `MAX_LIST` elements, or if an allocation fails. On failure, hands the
+    /// elements and the tail back.
     pub fn list(
         alloc: A,
         elements: Vec<Term<A>, A>,
@@ -641,24 +600,31 @@ impl<A: Allocator> Term<A> {
         }
     }
 
-    /// How deep the term is, from 1 to 255.
+    /// Returns the depth of the term, from 1 to 255: 1 if it contains no terms, otherwise one more than its deepest
+    /// part.
     #[inline]
     pub fn depth(&self) -> u8
         ensures value { result ≡ depth self.now }
         ensures within { IsTerm self.now }
     {
         match &self.shape {
-            Shape::Integer(_) | Shape::Nil | Shape::Short(_, _) | Shape::Atom(_) => 1,
-            Shape::Unit | Shape::Binary(_) => 1,
+            Shape::Integer(_) | Shape::Nil | Shape::Unit => 1,
+            Shape::ShortAtom(_, _) | Shape::MiddleAtom(_, _) | Shape::Atom(_) => 1,
+            Shape::ShortBinary(_, _) | Shape::MiddleBinary(_, _) => 1,
+            Shape::LargeBinary(_, _) | Shape::Binary(_) => 1,
             Shape::TupleOfOne(depth, _) | Shape::TupleOfTwo(depth, _) => *depth,
             Shape::TupleOfThree(depth, _) | Shape::TupleOfFour(depth, _) => *depth,
-            Shape::ShortList(depth, _) | Shape::MapOfOne(depth, _) => *depth,
+            Shape::ListOfOne(depth, _) | Shape::ListOfTwo(depth, _) => *depth,
+            Shape::ListOfThree(depth, _) | Shape::ListOfFour(depth, _) => *depth,
+            Shape::MapOfOne(depth, _) => *depth,
+            Shape::MapOfTwo(depth, _) | Shape::MapOfThree(depth, _) => *depth,
+            Shape::MapOfFour(depth, _) => *depth,
             Shape::Tuple(depth, _) | Shape::List(depth, _) | Shape::Map(depth, _) => *depth,
             Shape::Rest(depth, _, _) => *depth,
         }
     }
 
-    /// The term taken apart one level down.
+    /// Returns the term's kind with its parts, one level down.
     #[inline(always)]
     pub fn view(&self) -> View<'_, A>
         ensures value { shown result ≡ self.now }
@@ -668,15 +634,19 @@ impl<A: Allocator> Term<A> {
         match &self.shape {
             Shape::Integer(value) => View::Integer(*value),
             Shape::Nil => View::Nil,
-            Shape::Short(count, characters) => View::Atom(&characters[..usize::from(*count)]),
-            Shape::Atom(characters) => View::Atom(characters.as_slice()),
+            Shape::ShortAtom(count, bytes) => View::Atom(front_text(bytes, *count)),
+            Shape::MiddleAtom(count, bytes) => View::Atom(front_text(bytes, *count)),
+            Shape::Atom(text) => View::Atom(text.as_str()),
             Shape::Unit => View::Tuple(&[]),
             Shape::TupleOfOne(_, elements) => View::Tuple(&elements[..]),
             Shape::TupleOfTwo(_, elements) => View::Tuple(&elements[..]),
             Shape::TupleOfThree(_, elements) => View::Tuple(&elements[..]),
             Shape::TupleOfFour(_, elements) => View::Tuple(&elements[..]),
             Shape::Tuple(_, elements) => View::Tuple(elements.as_slice()),
-            Shape::ShortList(_, row) => View::List(row.as_slice(), None),
+            Shape::ListOfOne(_, elements) => View::List(&elements[..], None),
+            Shape::ListOfTwo(_, elements) => View::List(&elements[..], None),
+            Shape::ListOfThree(_, elements) => View::List(&elements[..], None),
+            Shape::ListOfFour(_, elements) => View::List(&elements[..], None),
             Shape::List(_, cells) => View::List(cells.elements.as_slice(), cells.tail.as_ref()),
             Shape::Rest(_, count, cells) => {
                 View::List(
@@ -685,12 +655,19 @@ impl<A: Allocator> Term<A> {
                 )
             }
             Shape::MapOfOne(_, pair) => View::Map(slice::from_ref(&**pair)),
+            Shape::MapOfTwo(_, pairs) => View::Map(&pairs[..]),
+            Shape::MapOfThree(_, pairs) => View::Map(&pairs[..]),
+            Shape::MapOfFour(_, pairs) => View::Map(&pairs[..]),
             Shape::Map(_, pairs) => View::Map(pairs.as_slice()),
+            Shape::ShortBinary(count, bytes) => View::Binary(front(bytes, *count)),
+            Shape::MiddleBinary(count, bytes) => View::Binary(front(bytes, *count)),
+            Shape::LargeBinary(count, bytes) => View::Binary(front(bytes, *count)),
             Shape::Binary(bytes) => View::Binary(bytes.as_slice()),
         }
     }
 
-    /// The element of a tuple at a place that is counted from 1, where there is one.
+    /// Returns the element of a tuple at a place counted from 1. Returns `None` if there is no such element or the term
+    /// is not a tuple.
     #[inline(always)]
     pub fn element_at(&self, place: u16) -> Option<&Term<A>>
         ensures { MatchOption result (field_of place self.now ≡ None)
@@ -699,7 +676,7 @@ impl<A: Allocator> Term<A> {
         self.view().element_at(place)
     }
 
-    /// Whether the term is a tuple of so many elements.
+    /// Returns whether the term is a tuple of `size` elements.
     #[inline(always)]
     pub fn is_tuple(&self, size: u16) -> bool
         ensures { result ≡ is_tuple_of size self.now }
@@ -707,7 +684,7 @@ impl<A: Allocator> Term<A> {
         self.view().is_tuple(size)
     }
 
-    /// Whether the term is a map.
+    /// Returns whether the term is a map.
     #[inline(always)]
     pub fn is_map(&self) -> bool
         ensures { result ≡ is_map self.now }
@@ -715,7 +692,8 @@ impl<A: Allocator> Term<A> {
         self.view().is_map()
     }
 
-    /// The elements of a list that has no tail but `[]`, none of any other term.
+    /// Returns the elements of a proper list, whose tail is `[]`. Returns `None` for an improper list and any other
+    /// term.
     pub fn proper_elements(&self) -> Option<&[Term<A>]>
         ensures value { option_copied result ≡ proper_elements self.now }
         ensures within { IsTerm self.now }

@@ -1,4 +1,4 @@
-//! What other crates see of a term.
+//! Views: what other crates see of a term.
 ghost use Rattle.std.specs.Prelude.{◌≡◌, ⊤, Some, None, MatchOption};
 ghost use Rattle.term_core.specs.Datum.{items_of};
 ghost use Rattle.term_core.specs.Datum.Datum.{tuple};
@@ -9,12 +9,12 @@ ghost use Rattle.term_core.specs.View.{shown, IsSplit};
 use crate::term::Term;
 use std::alloc::{AllocError, Allocator};
 
-/// Where `[]` stands among the kinds.
+/// The rank of `[]` in the order of kinds.
 pub(crate) const NIL_RANK: u8 = 4;
-/// Where the other lists stand.
+/// The rank of non-empty lists in the order of kinds.
 pub(crate) const LIST_RANK: u8 = 5;
 
-/// The element of a tuple of these elements at a place that is counted from 1.
+/// Returns the element at a place counted from 1 among the elements of a tuple, or `None` if there is no such element.
 #[inline(always)]
 fn element_of<A: Allocator>(elements: &[Term<A>], place: u16) -> Option<&Term<A>>
     ensures { MatchOption result (field_of place (tuple (items_of elements.now)) ≡ None)
@@ -34,15 +34,15 @@ fn element_of<A: Allocator>(elements: &[Term<A>], place: u16) -> Option<&Term<A>
 pub enum View<'a, A: Allocator> {
     /// An integer.
     Integer(i64),
-    /// An atom's characters.
-    Atom(&'a [char]),
+    /// The text of an atom.
+    Atom(&'a str),
     /// A tuple's elements.
     Tuple(&'a [Term<A>]),
     /// `[]`.
     Nil,
-    /// The elements of a list that is not empty, and its tail where that is not `[]`.
+    /// The elements of a list that is not empty, and its tail if it is not `[]`.
     List(&'a [Term<A>], Option<&'a Term<A>>),
-    /// A map's pairs, by rising key.
+    /// A map's pairs, in ascending key order.
     Map(&'a [(Term<A>, Term<A>)]),
     /// A binary's bytes.
     Binary(&'a [u8]),
@@ -61,7 +61,7 @@ impl<'a, A: Allocator> Clone for View<'a, A> {
 }
 
 impl<'a, A: Allocator> View<'a, A> {
-    /// Where the term's kind stands among the kinds.
+    /// Returns the rank of the term's kind in the order of kinds, from 0 to 6.
     #[inline(always)]
     pub fn rank(self) -> u8
         requires { IsSplit self }
@@ -78,7 +78,8 @@ impl<'a, A: Allocator> View<'a, A> {
         }
     }
 
-    /// The element of a tuple at a place that is counted from 1, where there is one.
+    /// Returns the element of a tuple at a place counted from 1. Returns `None` if there is no such element or the term
+    /// is not a tuple.
     #[inline(always)]
     pub fn element_at(self, place: u16) -> Option<&'a Term<A>>
         requires { IsSplit self }
@@ -91,7 +92,7 @@ impl<'a, A: Allocator> View<'a, A> {
         }
     }
 
-    /// Whether the term is a tuple of so many elements.
+    /// Returns whether the term is a tuple of `size` elements.
     #[inline(always)]
     pub fn is_tuple(self, size: u16) -> bool
         requires { IsSplit self }
@@ -103,7 +104,7 @@ impl<'a, A: Allocator> View<'a, A> {
         }
     }
 
-    /// Whether the term is a map.
+    /// Returns whether the term is a map.
     #[inline(always)]
     pub fn is_map(self) -> bool
         requires { IsSplit self }

@@ -41,7 +41,7 @@ module _ {X : Type 0} (test : X → Bool) where
   pub all-get_or : (xs : List X) (i : ℕ) (d : X) → i < length xs → IsTrue (all test xs) → IsTrue (test (get_or xs i d))
   all-get_or xs i d inside is = All-get_or Passes xs i d inside (all_pass xs is)
 
-  -- so do the two of a list of two
+  -- the two elements of a list of two pass the test that all its elements pass
   pub two_pass : (xs : List X) (x y : X) → length xs ≡ 2 → x ≡ get_or xs 0 x → y ≡ get_or xs 1 y → IsTrue (all test xs) → IsTrue (test x) × IsTrue (test y)
   two_pass xs x y two first second is =
       (subst (λ z. IsTrue (test z)) (sym first) (all-get_or xs 0 x (omega (arith, two)) is), subst (λ z. IsTrue (test z)) (sym second) (all-get_or xs 1 y (omega (arith, two)) is))

@@ -26,13 +26,13 @@ pub datum_cmp-cons : (a b d e : Datum) → datum_cmp (cons a d) (cons b e) ≡ o
 unfolding datum_cmp
 datum_cmp-cons a b d e = refl
 
--- neither two integers nor two atoms
+-- two terms that are neither two integers nor two atoms
 abbrev pub AreOther : Datum → Datum → Type 0
 AreOther (integer a) (integer b) = ⊥
 AreOther (atom a) (atom b) = ⊥
 AreOther d e = Unit {0}
 
--- a list with elements is none of these
+-- a list with elements is neither an integer nor an atom
 integer_beside_cells : (z : ℤ) (ds : List Datum) (tail : Datum) → 0 < length ds → AreOther (integer z) (cells ds tail)
 integer_beside_cells z [] tail some = absurd (omega arith)
 integer_beside_cells z (d ∷ ds) tail some = tt
@@ -45,7 +45,7 @@ cells_beside : (ds : List Datum) (tail d : Datum) → 0 < length ds → AreOther
 cells_beside [] tail d some = absurd (omega arith)
 cells_beside (e ∷ ds) tail d some = tt
 
--- views by what they are not
+-- a view that is not of an integer shows no integer
 pub beside_integer : {A : Type 0} (z : ℤ) (v : View A) → IsSplit v → ((x : ℤ) → v ≡ view.Integer x → ⊥) → AreOther (integer z) (shown v)
 beside_integer z (view.Integer x) split other = other x refl
 beside_integer z (view.List ds tail) split other = integer_beside_cells z ds.now _ split.0
@@ -72,12 +72,12 @@ datum_cmp-rank (cons a d) (cons b e) decided other = absurd decided
 datum_cmp-rank (binary a) (binary b) decided other = absurd decided
 datum_cmp-rank a b decided other = refl
 
--- cells whose heads are equal stand as their tails do
+-- cells whose heads are equal compare as their tails do
 pub datum_cmp-cons_equal : (a b d e l r : Datum) (o : Ordering) → cons a d ≡ l → cons b e ≡ r → o ≡ datum_cmp a b → o ≡ Equal → datum_cmp d e ≡ datum_cmp l r
 datum_cmp-cons_equal a b d e l r o l_is r_is o_is equal =
     rw (← l_is, ← r_is, datum_cmp-cons a b d e, ← o_is, equal)
 
--- cells whose heads differ stand as they do
+-- cells whose heads differ compare as their heads do
 pub datum_cmp-cons_other : (a b d e l r : Datum) (o : Ordering) → cons a d ≡ l → cons b e ≡ r → o ≡ datum_cmp a b → ¬ (o ≡ Equal) → o ≡ datum_cmp l r
 datum_cmp-cons_other a b d e l r o l_is r_is o_is other =
     rw (← l_is, ← r_is, datum_cmp-cons a b d e, ← o_is) (first o other)
@@ -92,7 +92,7 @@ pub IsSimple-cells : (ds : List Datum) (tail : Datum) → 0 < length ds → IsSi
 IsSimple-cells [] tail some = absurd (omega arith)
 IsSimple-cells (d ∷ ds) tail some = tt
 
--- what is left behind fewer elements than there are
+-- the rest after fewer elements than there are is a list with elements
 pub IsSimple-within : (n : ℕ) (ds : List Datum) (tail d : Datum) → n < length ds → cells (drop n ds) tail ≡ d → IsSimple d
 IsSimple-within n ds tail d within is = subst IsSimple is (IsSimple-cells (drop n ds) tail (omega (arith, length-drop n ds)))
 

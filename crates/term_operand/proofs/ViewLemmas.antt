@@ -16,12 +16,12 @@ pub no_number : (elements : List Datum) (tail : Datum) → 0 < length elements �
 no_number [] tail some = absurd (omega arith)
 no_number (d ∷ ds) tail some = refl
 
--- a list by its first cell is the list
+-- a list put together from its first element and its rest is the list
 first_cell : (elements : List Datum) (tail : Datum) → 0 < length elements → cons (get_or elements 0 nil) (cells (drop 1 elements) tail) ≡ cells elements tail
 first_cell [] tail some = absurd (omega arith)
 first_cell (d ∷ ds) tail some = refl
 
--- what is seen is what is shown
+-- the two definitions of what a view shows agree
 pub seen-shown : {A : Type 0} (v : View A) → IsSplit v → seen v ≡ shown v
 seen-shown (view.Integer z) split = refl
 seen-shown (view.Atom cs) split = refl
@@ -31,12 +31,12 @@ seen-shown (view.List ds tail) split = first_cell ds.now _ split.0
 seen-shown (view.Map es) split = refl
 seen-shown (view.Binary bs) split = refl
 
--- the first of elements, whatever stands for one where there is none
+-- the first element of a row, whatever the default for a missing one
 pub first_element : (elements : List Datum) (head other : Datum) → 1 ≤ length elements → head ≡ get_or elements 0 other → head ≡ get_or elements 0 nil
 first_element [] head other some is = absurd (omega arith)
 first_element (d ∷ ds) head other some is = is
 
--- the first of elements is the head of their cells
+-- the first element of a list is the head of its cells
 pub first_of_cells : (elements : List Datum) (head other tail whole : Datum) → 1 ≤ length elements → head ≡ get_or elements 0 other → cells elements tail ≡ whole → (rest : Datum) × (cons head rest ≡ whole)
 first_of_cells [] head other tail whole some is same = absurd (omega arith)
 first_of_cells (d ∷ ds) head other tail whole some is same = (cells ds tail, rw is same)

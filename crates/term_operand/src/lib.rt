@@ -1,11 +1,11 @@
-//! What functions and instructions are given and give: terms that stand where they stood before, parts of them,
-//! numbers, truth values, and terms that were made.
+//! The arguments and results of functions and instructions: borrowed terms, parts of them, integers, truth values, and
+//! terms that were made.
 //!
-//! The one contract: an `Operand` and a `Value` stand for a term (`operand_datum`, `value_datum` of `specs/`), and each
-//! way to look at one looks at that term. What isn't made takes no memory.
+//! The contract: an `Operand` and a `Value` each represent a term (`operand_datum`, `value_datum` of `specs/`), and
+//! each function that looks at one looks at that term. Only values that were made need memory.
 //!
-//! - `operand`: what is borrowed; `order`: how two operands stand in the order of terms.
-//! - `value`: what is borrowed or made.
+//! - `operand`: borrowed terms; `order`: comparing two operands in the order of terms.
+//! - `value`: terms that are borrowed or were made.
 #![tactic(auto)]
 
 mod operand;

@@ -1,4 +1,4 @@
-//! Terms that stand where they stood before, and parts of them.
+//! Borrowed terms, and parts of them.
 ghost use Rattle.std.specs.Prelude.{◌≡◌, ⊤, false, Some, None, MatchOption, IfOk, IfSome};
 ghost use Rattle.std.specs.Str.{chars};
 ghost use Rattle.term_core.specs.Datum.{items_of, entries_of};
@@ -12,19 +12,19 @@ ghost use Rattle.term_operand.specs.Operand.{operand_datum, boolean as boolean_a
 ghost use Rattle.term_operand.specs.Order.{IsSimple};
 
 use std::alloc::{AllocError, Allocator, Global};
-use term_build::{atom_of_text, copy_behind, view_behind};
+use term_build::{atom_of_text, copy_rest, view_rest};
 use term_core::{Term, View};
 
-/// The characters of the atom `true`.
-const TRUE: [char; 4] = ['t', 'r', 'u', 'e'];
-/// The characters of the atom `false`.
-const FALSE: [char; 5] = ['f', 'a', 'l', 's', 'e'];
+/// The text of the atom `true`.
+const TRUE: &str = "true";
+/// The text of the atom `false`.
+const FALSE: &str = "false";
 
-/// A term that a function is given or gives, which takes no memory of its own.
+/// A term that is an argument or a result of a function, and needs no memory of its own.
 pub enum Operand<'a, A: Allocator = Global> {
-    /// The term that this is.
+    /// A whole term.
     Term(&'a Term<A>),
-    /// What is left of this list behind so many of its elements. Another term is left as it is.
+    /// The rest of this list after its first `count` elements. A term that is not a list is taken as it is.
     Rest(&'a Term<A>, usize),
     /// An integer.
     Int(i64),
@@ -44,7 +44,7 @@ impl<'a, A: Allocator> Clone for Operand<'a, A> {
     }
 }
 
-/// The atom `false`, which stands in the free places of a small vector.
+/// The default is the atom `false`, which fills the free places of a small vector.
 impl<'a, A: Allocator> Default for Operand<'a, A> {
     ghost is_default = { λ operand. operand_datum operand ≡ boolean_atom false };
 
@@ -53,36 +53,53 @@ impl<'a, A: Allocator> Default for Operand<'a, A> {
     }
 }
 
-/// The text of the atom `true` or `false`.
+/// Returns the text of the atom `true` or `false`.
 fn boolean_text(value: bool) -> &'static str
-    ensures { atom (chars result.now) ≡ boolean_atom value }
+    ensures value { atom (chars result.now) ≡ boolean_atom value }
+    ensures sound { IsSound (atom (chars result.now)) }
 {
-    if value { "true" } else { "false" }
+    if value { TRUE } else { FALSE }
 }
 
-/// The atom `true` or `false`.
+/// Returns the truth value with this name, or `None` if there is none.
+#[tactic(auto, using(crate::proofs::TextLemmas::is_true, crate::proofs::TextLemmas::is_false))]
+fn boolean_named(text: &str) -> Option<bool>
+    ensures { result ≡ boolean_of (atom (chars text.now)) }
+{
+    if text == TRUE {
+        return Some(true);
+    }
+    if text == FALSE {
+        return Some(false);
+    }
+    None
+}
+
+/// Makes the atom `true` or `false`. Fails if an allocation fails.
 fn boolean_term<A: Allocator + Copy>(alloc: A, value: bool) -> Result<Term<A>, AllocError>
     ensures { IfOk result (λ t. t ≡ boolean_atom value) }
 {
     atom_of_text(alloc, boolean_text(value)).map_err(|fault| fault.alloc_error())
 }
 
-/// The first element of what is left of a list and what follows it, none where that is no list with elements.
-fn split_behind<'a, A: Allocator>(
+/// Returns the first element of a list's rest after `count` elements, and what follows that element. Returns `None` if
+/// the rest has no elements or the term is not a list.
+fn split_after<'a, A: Allocator>(
     list: &'a Term<A>,
     count: usize,
 ) -> Option<(&'a Term<A>, Operand<'a, A>)>
     ensures { MatchOption result (IsNoCell (rest_of count list.now))
         (λ p. cons p.0.now (operand_datum p.1) ≡ rest_of count list.now) }
 {
-    match view_behind(list, count) {
+    match view_rest(list, count) {
         View::List([head, ..], _tail) => Some((head, Operand::Rest(list, count + 1))),
         _ => None,
     }
 }
 
-/// What is left of a list, where that stands whole.
-fn whole_behind<A: Allocator>(list: &Term<A>, count: usize) -> Option<&Term<A>>
+/// Returns the rest of a list after `count` elements if it is a term that exists by itself: a tail, or a term that is
+/// not a list. Otherwise returns `None`.
+fn whole_after<A: Allocator>(list: &Term<A>, count: usize) -> Option<&Term<A>>
     ensures { MatchOption result (IsSimple (rest_of count list.now))
         (λ t. t.now ≡ rest_of count list.now) }
 {
@@ -97,7 +114,7 @@ fn whole_behind<A: Allocator>(list: &Term<A>, count: usize) -> Option<&Term<A>>
     }
 }
 
-/// The number of an integer.
+/// Returns the value of an integer, or `None` for any other term.
 #[inline(always)]
 fn integer_of<A: Allocator>(view: View<'_, A>) -> Option<i64>
     requires { IsSplit view }
@@ -111,7 +128,7 @@ fn integer_of<A: Allocator>(view: View<'_, A>) -> Option<i64>
     }
 }
 
-/// The elements of a tuple.
+/// Returns the elements of a tuple, or `None` for any other term.
 #[inline(always)]
 fn elements_of<'a, A: Allocator>(view: View<'a, A>) -> Option<&'a [Term<A>]>
     requires { IsSplit view }
@@ -127,7 +144,7 @@ fn elements_of<'a, A: Allocator>(view: View<'a, A>) -> Option<&'a [Term<A>]>
 }
 
 impl<'a, A: Allocator> Operand<'a, A> {
-    /// The operand taken apart one level down.
+    /// Returns the operand's kind with its parts, one level down.
     #[inline]
     pub fn view(self) -> View<'a, A>
         ensures value { seen result ≡ operand_datum self.entry }
@@ -137,50 +154,49 @@ impl<'a, A: Allocator> Operand<'a, A> {
     {
         match self {
             Operand::Term(term) => term.view(),
-            Operand::Rest(list, count) => view_behind(list, count),
+            Operand::Rest(list, count) => view_rest(list, count),
             Operand::Int(value) => View::Integer(value),
-            Operand::Bool(true) => View::Atom(&TRUE),
-            Operand::Bool(false) => View::Atom(&FALSE),
+            Operand::Bool(value) => View::Atom(boolean_text(value)),
         }
     }
 
-    /// The truth value that the operand is, where it is the atom `true` or `false`.
+    /// Returns the truth value if the operand is the atom `true` or `false`, otherwise `None`.
     pub fn boolean(self) -> Option<bool>
         ensures { result ≡ boolean_of (operand_datum self.entry) }
     {
         match self.view() {
-            View::Atom(characters) if characters == TRUE.as_slice() => Some(true),
-            View::Atom(characters) if characters == FALSE.as_slice() => Some(false),
-            _ => None,
+            View::Atom(text) => boolean_named(text),
+            View::Integer(_) | View::Nil | View::Tuple(_) => None,
+            View::List(..) | View::Map(_) | View::Binary(_) => None,
         }
     }
 
-    /// The number that the operand is, where it is an integer.
+    /// Returns the value if the operand is an integer, otherwise `None`.
     #[inline(always)]
     pub fn integer(self) -> Option<i64>
         ensures { result ≡ integer_of (operand_datum self.entry) }
     {
         match self {
             Operand::Term(term) => integer_of(term.view()),
-            Operand::Rest(list, count) => integer_of(view_behind(list, count)),
+            Operand::Rest(list, count) => integer_of(view_rest(list, count)),
             Operand::Int(value) => Some(value),
             Operand::Bool(_) => None,
         }
     }
 
-    /// The first element of a list and what follows it, none where the operand is no list with elements.
+    /// Returns the first element of a list and what follows it, or `None` if the operand is not a list with elements.
     pub fn split(self) -> Option<(&'a Term<A>, Operand<'a, A>)>
         ensures { MatchOption result (IsNoCell (operand_datum self.entry))
             (λ p. cons p.0.now (operand_datum p.1) ≡ operand_datum self.entry) }
     {
         match self {
-            Operand::Term(list) => split_behind(list, 0),
-            Operand::Rest(list, count) => split_behind(list, count),
+            Operand::Term(list) => split_after(list, 0),
+            Operand::Rest(list, count) => split_after(list, count),
             Operand::Int(_) | Operand::Bool(_) => None,
         }
     }
 
-    /// The elements, where the operand is a tuple.
+    /// Returns the elements if the operand is a tuple, otherwise `None`.
     #[inline(always)]
     pub fn elements(self) -> Option<&'a [Term<A>]>
         ensures { MatchOption result (IsNoTuple (operand_datum self.entry))
@@ -188,12 +204,13 @@ impl<'a, A: Allocator> Operand<'a, A> {
     {
         match self {
             Operand::Term(term) => elements_of(term.view()),
-            Operand::Rest(list, count) => elements_of(view_behind(list, count)),
+            Operand::Rest(list, count) => elements_of(view_rest(list, count)),
             Operand::Int(_) | Operand::Bool(_) => None,
         }
     }
 
-    /// The element of a tuple at a place that is counted from 1, where there is one.
+    /// Returns the element of a tuple at a place counted from 1. Returns `None` if there is no such element or the
+    /// operand is not a tuple.
     #[inline(always)]
     pub fn element_at(self, place: u16) -> Option<&'a Term<A>>
         ensures { MatchOption result (field_of place (operand_datum self.entry) ≡ None)
@@ -201,24 +218,24 @@ impl<'a, A: Allocator> Operand<'a, A> {
     {
         match self {
             Operand::Term(term) => term.element_at(place),
-            Operand::Rest(list, count) => view_behind(list, count).element_at(place),
+            Operand::Rest(list, count) => view_rest(list, count).element_at(place),
             Operand::Int(_) | Operand::Bool(_) => None,
         }
     }
 
-    /// Whether the operand is a tuple of so many elements.
+    /// Returns whether the operand is a tuple of `size` elements.
     #[inline(always)]
     pub fn is_tuple(self, size: u16) -> bool
         ensures { result ≡ is_tuple_of size (operand_datum self.entry) }
     {
         match self {
             Operand::Term(term) => term.is_tuple(size),
-            Operand::Rest(list, count) => view_behind(list, count).is_tuple(size),
+            Operand::Rest(list, count) => view_rest(list, count).is_tuple(size),
             Operand::Int(_) | Operand::Bool(_) => false,
         }
     }
 
-    /// Whether the operand is a map.
+    /// Returns whether the operand is a map.
     #[inline(always)]
     pub fn is_map(self) -> bool
         ensures { result ≡ is_map (operand_datum self.entry) }
@@ -226,7 +243,7 @@ impl<'a, A: Allocator> Operand<'a, A> {
         self.view().is_map()
     }
 
-    /// The pairs, where the operand is a map.
+    /// Returns the pairs, in ascending key order, if the operand is a map, otherwise `None`.
     pub fn pairs(self) -> Option<&'a [(Term<A>, Term<A>)]>
         ensures value { MatchOption result (IsNoMap (operand_datum self.entry))
             (λ pairs. map (entries_of pairs.now) ≡ operand_datum self.entry) }
@@ -239,19 +256,20 @@ impl<'a, A: Allocator> Operand<'a, A> {
         }
     }
 
-    /// The term that the operand is, where it stands whole.
+    /// Returns the borrowed term that the operand represents. Returns `None` for an integer, a truth value, and a rest
+    /// that does not exist as a term by itself.
     pub fn term(self) -> Option<&'a Term<A>>
         ensures { MatchOption result (IsSimple (operand_datum self.entry))
             (λ t. t.now ≡ operand_datum self.entry) }
     {
         match self {
             Operand::Term(term) => Some(term),
-            Operand::Rest(list, count) => whole_behind(list, count),
+            Operand::Rest(list, count) => whole_after(list, count),
             Operand::Int(_) | Operand::Bool(_) => None,
         }
     }
 
-    /// The term that the operand stands for. A term that is borrowed is copied.
+    /// Returns the term that the operand represents. Copies a borrowed term. Fails if an allocation or a copy fails.
     pub fn to_term(self, alloc: A) -> Result<Term<A>, AllocError>
     where
         A: Copy,
@@ -259,7 +277,7 @@ impl<'a, A: Allocator> Operand<'a, A> {
     {
         match self {
             Operand::Term(term) => term.copy(),
-            Operand::Rest(list, count) => copy_behind(alloc, list, count),
+            Operand::Rest(list, count) => copy_rest(alloc, list, count),
             Operand::Int(value) => Ok(Term::int(value)),
             Operand::Bool(value) => boolean_term(alloc, value),
         }

@@ -1,4 +1,4 @@
-//! How operands stand in the order of terms.
+//! Comparing operands in the order of terms.
 ghost use Rattle.std.specs.Prelude.{◌≡◌};
 ghost use Rattle.term_core.specs.Order.{datum_cmp};
 ghost use Rattle.term_core.specs.View.{shown, IsSplit};
@@ -10,7 +10,7 @@ use std::alloc::Allocator;
 use std::cmp::Ordering;
 use term_core::View;
 
-/// How two terms stand whose kinds or own values decide.
+/// Compares two terms of different kinds, or of one kind whose own values decide.
 fn compare_views<A: Allocator>(left: View<'_, A>, right: View<'_, A>) -> Ordering
     requires left { IsSplit left }
     requires right { IsSplit right }
@@ -24,7 +24,7 @@ fn compare_views<A: Allocator>(left: View<'_, A>, right: View<'_, A>) -> Orderin
     }
 }
 
-/// How two terms stand that are not both lists with elements.
+/// Compares two terms of which at least one is not a list with elements.
 fn compare_ends<A: Allocator>(left: Operand<'_, A>, right: Operand<'_, A>) -> Ordering
     requires { AreEnds (operand_datum left) (operand_datum right) }
     ensures { result ≡ datum_cmp (operand_datum left.entry) (operand_datum right.entry) }
@@ -35,7 +35,7 @@ fn compare_ends<A: Allocator>(left: Operand<'_, A>, right: Operand<'_, A>) -> Or
     }
 }
 
-/// How two terms stand, where one may be the rest of a list.
+/// Compares two terms of which at least one may be the rest of a list.
 fn compare_cells<A: Allocator>(left: Operand<'_, A>, right: Operand<'_, A>) -> Ordering
     ensures { result ≡ datum_cmp (operand_datum left.entry) (operand_datum right.entry) }
 {
@@ -58,7 +58,7 @@ fn compare_cells<A: Allocator>(left: Operand<'_, A>, right: Operand<'_, A>) -> O
     }
 }
 
-/// How the operands stand in the order of terms.
+/// Compares the operands in the order of terms.
 #[inline(always)]
 pub fn compare<A: Allocator>(left: Operand<'_, A>, right: Operand<'_, A>) -> Ordering
     ensures { result ≡ datum_cmp (operand_datum left.entry) (operand_datum right.entry) }

@@ -3,12 +3,12 @@ use crate::operand::Operand;
 use std::alloc::{AllocError, Allocator, Global};
 use term_core::{Term, View};
 
-/// A term that is borrowed, or was made. It lasts as long as what is borrowed.
+/// A term that is borrowed or was made. It may live as long as the terms that it borrows.
 #[derive(Drop)]
 pub enum Value<'a, A: Allocator = Global> {
-    /// A term that stands in what was given.
+    /// A borrowed term.
     Term(&'a Term<A>),
-    /// What is left of this list behind so many of its elements. Another term is left as it is.
+    /// The rest of this list after its first `count` elements. A term that is not a list is taken as it is.
     Rest(&'a Term<A>, usize),
     /// An integer.
     Int(i64),
@@ -18,12 +18,12 @@ pub enum Value<'a, A: Allocator = Global> {
     Made(Term<A>),
 }
 
-/// Lets a value go by a call: where that seldom happens, the caller is a test then.
+/// Drops a value in a separate call. Where values seldom need that, the caller contains only a test.
 #[inline(never)]
 pub fn drop_apart<T: Drop>(_value: T) {}
 
 impl<'a, A: Allocator> Default for Value<'a, A> {
-    /// What a place holds before a value is put there.
+    /// The value of a place before another value is stored there: the atom `false`.
     fn default() -> Self {
         Value::Bool(false)
     }
@@ -37,7 +37,7 @@ impl<'a, A: Allocator> Value<'a, A> {
     ghost use Rattle.term_core.specs.View.{shown, IsSplit};
     ghost use Rattle.term_operand.specs.View.{seen};
 
-    /// The value of an operand.
+    /// Returns the value of an operand.
     #[inline(always)]
     pub fn new(operand: Operand<'a, A>) -> Self
         ensures value { value_datum result ≡ operand_datum operand.entry }
@@ -51,7 +51,7 @@ impl<'a, A: Allocator> Value<'a, A> {
         }
     }
 
-    /// Lets the value go.
+    /// Drops the value. Only a value that was made needs a call for that.
     #[inline(always)]
     pub fn go(self) {
         match self {
@@ -60,7 +60,7 @@ impl<'a, A: Allocator> Value<'a, A> {
         }
     }
 
-    /// The value as an operand.
+    /// Returns the value as an operand that borrows from the value.
     #[inline(always)]
     pub fn operand(&self) -> Operand<'_, A>
         ensures { operand_datum result ≡ value_datum self.now }
@@ -74,7 +74,7 @@ impl<'a, A: Allocator> Value<'a, A> {
         }
     }
 
-    /// The value as an operand that lasts, where it wasn't made.
+    /// Returns the value as an operand that borrows what the value borrows. Returns `None` if the value was made.
     #[inline(always)]
     pub fn borrowed(&self) -> Option<Operand<'a, A>>
         ensures value { IfSome result (λ operand. operand_datum operand ≡ value_datum self.now) }
@@ -89,7 +89,7 @@ impl<'a, A: Allocator> Value<'a, A> {
         }
     }
 
-    /// The value taken apart one level down.
+    /// Returns the value's kind with its parts, one level down.
     #[inline(always)]
     pub fn view(&self) -> View<'_, A>
         ensures value { seen result ≡ value_datum self.now }
@@ -100,7 +100,7 @@ impl<'a, A: Allocator> Value<'a, A> {
         self.operand().view()
     }
 
-    /// The truth value that the value is, where it is the atom `true` or `false`.
+    /// Returns the truth value if the value is the atom `true` or `false`, otherwise `None`.
     #[inline(always)]
     pub fn boolean(&self) -> Option<bool>
         ensures { result ≡ boolean_of (value_datum self.now) }
@@ -112,7 +112,7 @@ impl<'a, A: Allocator> Value<'a, A> {
         }
     }
 
-    /// Whether the value is the atom `true`.
+    /// Returns whether the value is the atom `true`.
     #[inline(always)]
     pub fn is_true(&self) -> bool
         ensures { IsTrue result ↔ (value_datum self.now ≡ boolean_atom true) }
@@ -120,7 +120,7 @@ impl<'a, A: Allocator> Value<'a, A> {
         matches!(self.boolean(), Some(true))
     }
 
-    /// The number that the value is, where it is an integer.
+    /// Returns the number if the value is an integer, otherwise `None`.
     #[inline(always)]
     pub fn integer(&self) -> Option<i64>
         ensures { result ≡ integer_of (value_datum self.now) }
@@ -128,7 +128,7 @@ impl<'a, A: Allocator> Value<'a, A> {
         self.operand().integer()
     }
 
-    /// The truth value that a value was, where it was the atom `true` or `false`.
+    /// Returns the truth value if the value is the atom `true` or `false`, otherwise `None`, and drops the value.
     pub fn into_boolean(self) -> Option<bool>
         ensures { result ≡ boolean_of (value_datum self.entry) }
     {
@@ -141,7 +141,7 @@ impl<'a, A: Allocator + Copy> Value<'a, A> {
     ghost use Rattle.term_operand.specs.Operand.{operand_datum};
     ghost use Rattle.term_operand.specs.Value.{value_datum, is_borrowed};
 
-    /// The value of an operand that doesn't last, which is copied where it stands in a term.
+    /// Returns a value that does not borrow from the operand: a term is copied. Fails if an allocation or a copy fails.
     pub fn kept(alloc: A, operand: Operand<'_, A>) -> Result<Self, AllocError>
         ensures { IfOk result (λ value. value_datum value ≡ operand_datum operand.entry) }
     {
@@ -152,7 +152,7 @@ impl<'a, A: Allocator + Copy> Value<'a, A> {
         }
     }
 
-    /// The value once more. A borrowed one takes no memory.
+    /// Returns a copy of the value. A copy of a borrowed value needs no memory and cannot fail.
     #[inline(always)]
     pub fn copy(&self) -> Result<Self, AllocError>
         ensures value { IfOk result (λ value. value_datum value ≡ value_datum self.now) }
@@ -168,7 +168,7 @@ impl<'a, A: Allocator + Copy> Value<'a, A> {
         }
     }
 
-    /// The value as a term, copied where it is borrowed.
+    /// Returns the value as a term, copied if it is borrowed. Fails if an allocation or a copy fails.
     pub fn into_term(self, alloc: A) -> Result<Term<A>, AllocError>
         ensures { IfOk result (λ term. term ≡ value_datum self.entry) }
     {

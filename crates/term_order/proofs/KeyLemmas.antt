@@ -1,4 +1,4 @@
--- The last of some pairs, and the keys above it.
+-- The last of some pairs, and keys above it.
 use Rattle.std.specs.declared.cmp.Ordering.{Ordering}
 use Rattle.std.specs.declared.cmp.Ordering.TheVariants.{Less, Equal, Greater}
 use Rattle.std.specs.Ordering.{is_lt}
@@ -19,7 +19,7 @@ last_is [] x is = absurd (none-some x (sym is))
 last_is (y ∷ []) x is = ([], ap (λ z. z ∷ []) (sym (same_Some x y is)))
 last_is (y ∷ z ∷ xs) x is = let rest = last_is (z ∷ xs) x (is ∙ ap (slice_get (y ∷ z ∷ xs)) (one_less (length xs))) in (y ∷ rest.0, ap (λ zs. y ∷ zs) rest.1)
 
--- above the last key, seen from that key
+-- a key above the last of these pairs is what is above that pair's key
 above_last : (front : List (Datum × Datum)) (p : Datum × Datum) (key : Datum) → (IsBelow p.0 key → IsAboveKeys (front ++ p ∷ []) key) × (IsAboveKeys (front ++ p ∷ []) key → IsBelow p.0 key)
 above_last [] p key = (λ h. h, λ h. h)
 above_last (q ∷ []) p key = (λ h. h, λ h. h)

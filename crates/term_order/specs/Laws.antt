@@ -3,8 +3,8 @@ use Rattle.std.specs.Prelude.{◌≡◌, ◌⊎◌}
 use Rattle.term_core.specs.Datum.{Datum}
 use Rattle.term_core.specs.Order.{IsBelow}
 
--- No term stands before itself; what stands before one that stands before a third stands before the third; and of two
--- terms that differ one stands before the other.
+-- No term is below itself; a term that is below another is below all terms that the other is below; and of two terms
+-- that differ one is below the other.
 pub record IsTotal : Type 0 where
   pub irreflexive : (a : Datum) → ¬ IsBelow a a
   pub transitive : (a b c : Datum) → IsBelow a b → IsBelow b c → IsBelow a c

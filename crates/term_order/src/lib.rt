@@ -1,8 +1,8 @@
 //! The order of terms and the hash of keys, as functions of terms.
 //!
-//! `compare` answers by the order that `IsBelow` states (`specs/` of `term_core`, `Order.antt`), which `order_is_total`
-//! shows to be a total order; `is_key_above` tells whether a key may follow rising keys (`specs/Keys.antt`); `key_hash`
-//! is the hash of `KeyHash.antt` of `term_core`.
+//! `compare` returns the order that `IsBelow` defines (`specs/` of `term_core`, `Order.antt`); `order_is_total` proves
+//! that it is a total order. `is_key_above` returns whether a key may follow pairs in ascending key order
+//! (`specs/Keys.antt`). `key_hash` returns the hash that `KeyHash.antt` of `term_core` defines.
 #![tactic(auto)]
 
 ghost use Rattle.std.specs.Prelude.{◌≡◌, ◌↔◌, IsTrue};
@@ -16,9 +16,9 @@ use std::alloc::Allocator;
 use std::cmp::Ordering;
 use term_core::Term;
 
-/// Which of two terms stands first: number < atom < tuple < map < `[]` < non-empty list < binary, and among terms of
-/// one kind by value, characters, size and elements, size, keys and values, head and tail, and bytes. (Erlang Reference
-/// Manual, "Term Comparisons".) Takes no memory, and time linear in the smaller term.
+/// Compares two terms: number < atom < tuple < map < `[]` < non-empty list < binary. Integers compare by value, atoms
+/// by characters, tuples by size and elements, maps by size, keys and values, lists by head and tail, binaries by
+/// bytes. (Erlang Reference Manual, "Term Comparisons".) Does not allocate, and takes time linear in the smaller term.
 pub fn compare<A: Allocator>(a: &Term<A>, b: &Term<A>) -> Ordering
     ensures order { MatchOrdering result (IsBelow a.now b.now) (a.now ≡ b.now)
         (IsBelow b.now a.now) }
@@ -27,8 +27,8 @@ pub fn compare<A: Allocator>(a: &Term<A>, b: &Term<A>) -> Ordering
     a.cmp(b)
 }
 
-/// Whether a key stands above the last of these pairs, or there is none. Takes no memory, and time linear in the
-/// smaller of the two keys.
+/// Returns whether a key is above the key of the last of these pairs, or there are no pairs. Does not allocate, and
+/// takes time linear in the smaller of the two keys.
 pub fn is_key_above<A: Allocator>(before: &[(Term<A>, Term<A>)], key: &Term<A>) -> bool
     ensures { IsTrue result ↔ IsAboveKeys before.now key.now }
 {
@@ -38,15 +38,15 @@ pub fn is_key_above<A: Allocator>(before: &[(Term<A>, Term<A>)], key: &Term<A>) 
     }
 }
 
-/// The hash of a key, a number modulo 2^64: which part and which slot of a table hold it. Takes no memory, and time
-/// linear in the term.
+/// Returns the hash of a key, a number modulo 2^64, which decides in which part and slot of a table the key is. Does
+/// not allocate, and takes time linear in the term.
 pub fn key_hash<A: Allocator>(term: &Term<A>) -> u64
     ensures { result ≡ key_hash term.now }
 {
     term.key_hash()
 }
 
-/// The order is total, and tells all terms apart.
+/// Proves that the order of terms is total and distinguishes all terms.
 pub fn order_is_total()
     ensures { IsTotal }
 {}

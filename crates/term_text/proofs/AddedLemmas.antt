@@ -1,4 +1,4 @@
--- A text that is added to another one.
+-- A text that is appended to another one.
 use Rattle.std.proofs.Common.{◌≡◌, ℕ, ◌≤◌, List, ◌++◌, [], length, take, drop, sym, ap, ◌∙◌, arith}
 use Rattle.std.proofs.lemmas.List.{drop_all, take-append-drop, take-append-le, drop-append-le}
 

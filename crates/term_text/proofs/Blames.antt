@@ -1,4 +1,4 @@
--- A reader that stops names what stands at the place where it stops: steps and tokens.
+-- A reader that stops names the cause that is at the place where it stops: steps and tokens.
 use Rattle.std.proofs.Common.{◌≡◌, ◌≢◌, ◌&&◌, ℕ, zero, suc, ◌+◌, ◌≤◌, ◌<◌, ◌⊎◌, inl, inr, Bool, true, false, cond, List, [], ◌∷◌, ◌++◌, length, drop, Option, Some, None, Result, Ok, Err, ℤ, pos, negsuc, refl, sym, ◌∙◌, arith, one-add}
 use Rattle.std.specs.Prelude.{IfOk, IfErr, IfSome, ◌==◌, nat_lt}
 use Rattle.std.specs.List.{prefix_len}
@@ -25,7 +25,7 @@ use Rattle.term_text.specs.Causes.IsWide.{wide, wide_positive, wide_negative}
 use Rattle.term_text.specs.Causes.IsOutOfRange.{wide_segment, no_byte, no_byte_character}
 use Rattle.term_text.specs.Causes.IsNoEscape.{no_escape}
 use Rattle.term_text.specs.TokenReading.{Fault, Read, ◌>>=◌, Step, steps, all_steps, after_gap, expect, expect_both, opening, is_sign, fits, number_run, number_at, integer_at, word_at, is_allowed, escape_as, escape_at, character_at, next_quoted, pushed, quoted_step, quoted_at}
-use Rattle.term_text.specs.Reading.{separated, comma_in, behind_comma, enter, enter_as, byte_of, byte_at, string_marks, byte_marks, atom_marks}
+use Rattle.term_text.specs.Reading.{separated, comma_in, after_comma, enter, enter_as, byte_of, byte_at, string_marks, byte_marks, atom_marks}
 use Rattle.term_text.proofs.Steps.{bind_holds, if_holds, holds_from, weaker, Hands, steps_hold, Shrinks}
 use Rattle.term_text.proofs.Tokens.{Behind, IsCharacter, gap_holds, character_holds, escaped_allowed, quoted_shrinks, if_is}
 use Rattle.term_text.proofs.Tokens.Behind.{something, nothing}
@@ -33,13 +33,13 @@ use Rattle.term_text.proofs.Tokens.IsCharacter.{as_it_is, as_escape}
 use Rattle.term_text.proofs.Words.{Opens, BeginsWord, opening_holds, opening_integer, opening_word, integer_holds, number_holds}
 use Rattle.term_text.proofs.Words.{BeginsInteger as IsIntegerStart}
 
--- so many characters from the end of a text begins what is such
+-- what begins this number of characters before the end of a text satisfies a condition
 pub record Left (left : ℕ) (IsSuch : List ℕ → Type 0) : Type 0 where
   pub rest : List ℕ
   pub here : left ≡ length rest
   pub such : IsSuch rest
 
--- what a reader stops for, stands there
+-- the cause that a reader stops for is at its place
 abbrev pub Blames : List ℕ → Fault → Type 0
 Blames whole (causes.TooDeep, left) = Left left (IsTooDeep whole)
 Blames whole (causes.TooLong, left) = Left left (IsTooLong whole)
@@ -71,7 +71,7 @@ whole_gap_of text rest (nothing g l) e = to_the_end g l
 pub whole_gap : (text : List ℕ) → WholeGap text (after_gap false text)
 whole_gap text = whole_gap_of text (after_gap false text) (gap_holds text) (gap_ended text)
 
--- what something follows is a gap
+-- what a token follows is a gap
 pub gap_before : {text t : List ℕ} (c : ℕ) (rest : List ℕ) → WholeGap text t → t ≡ c ∷ rest → Gap text (c ∷ rest)
 gap_before c rest (up_to g e) h = rw h at g
 gap_before c rest (to_the_end g l) h = absurd cc
@@ -95,7 +95,7 @@ both_ok P Q (Ok x) h k = (h, k)
 both_ok P Q (Err e) h k = tt
 
 module _ {S : Type 0} (step : Step S) (Good : S → List ℕ → Type 0) (E : Fault → Type 0) where
-  -- where a step goes on, all is well for the next
+  -- if a step goes on, the condition holds for the next step
   abbrev pub StaysGood : Bool × S × List ℕ → Type 0
   StaysGood t = t.0 ≡ true → Good t.1 t.2
 
@@ -113,7 +113,7 @@ module _ {S : Type 0} (step : Step S) (Good : S → List ℕ → Type 0) (E : Fa
       (both_ok StaysGood (StaysShort text) (step s text) (good s text g) (holds_from (StaysShort text) (step s text) (λ t e. shrinks.shorter s text t e))) (blames s text g)
       (λ t h. goes_on n t (λ goes. let less = h.1 goes in steps_blame shrinks good blames n t.1 t.2 (omega arith) (h.0 goes)))
 
--- what stands behind an item: a comma and the next item, or no comma
+-- what follows an item: a comma and the next item, or no comma
 data Next (text : List ℕ) : Bool → List ℕ → Type 0 where
   comes : {u rest : List ℕ} → Gap text (comma ∷ u) → WholeGap u rest → Next text true rest
   ends : {rest : List ℕ} → WholeGap text rest → ¬ BeginsWith comma rest → Next text false rest
@@ -125,10 +125,10 @@ next_in text (c ∷ cs) w =
     (λ e. comes (rw (eqb-true c comma e) at (gap_before c cs w refl)) (whole_gap cs))
     (λ n. ends w (λ h. eqb-false c comma n h))
 
-next_item : (text : List ℕ) → Next text (behind_comma text).0 (behind_comma text).1
+next_item : (text : List ℕ) → Next text (after_comma text).0 (after_comma text).1
 next_item text = next_in text (after_gap false text) (whole_gap text)
 
--- the last of some items, and what stands behind it
+-- the last of some items, and what follows it
 pub record LastItem {S : Type 0} (Item : S → List ℕ → S → List ℕ → Type 0) (Good : S → List ℕ → Type 0) (made : S) (rest : List ℕ) : Type 0 where
   pub before : S
   pub text : List ℕ
@@ -147,7 +147,7 @@ module _ {S : Type 0} (item : S → List ℕ → Read S) (Item : S → List ℕ 
   separated_blames E shrinks blames s text g =
       steps_blame (separated item) Good E shrinks
       (λ s text g. bind_holds (λ (x : S × List ℕ). Item s text x.0 x.1) (StaysGood (separated item) Good E) (item s text) _ (holds s text)
-      (λ x i. λ goes. good_next s text x.0 x.1 (behind_comma x.1).0 (behind_comma x.1).1 g i (next_item x.1) goes))
+      (λ x i. λ goes. good_next s text x.0 x.1 (after_comma x.1).0 (after_comma x.1).1 g i (next_item x.1) goes))
       (λ s text g. bind_any E (item s text) _ (blames s text g) (λ x. tt))
       (suc (length text)) s text (omega arith) g
 
@@ -163,7 +163,7 @@ module _ {S : Type 0} (item : S → List ℕ → Read S) (Item : S → List ℕ 
       weaker (λ (x : S × List ℕ). LastFrom s text x.0 x.1) _ (all_steps (separated item) s text) (λ x last. last g)
       (steps_hold (separated item) LastFrom
       (λ s text. bind_holds (λ (x : S × List ℕ). Item s text x.0 x.1) (Hands (separated item) LastFrom s text) (item s text) _ (holds s text)
-      (λ x i. last_hands s x.0 text x.1 i (behind_comma x.1).0 (behind_comma x.1).1 (next_item x.1)))
+      (λ x i. last_hands s x.0 text x.1 i (after_comma x.1).0 (after_comma x.1).1 (next_item x.1)))
       (suc (length text)) s text)
 
 -- ---- tokens
@@ -222,7 +222,7 @@ term_some begins_term.a_list = omega arith
 term_some begins_term.a_map = omega arith
 term_some begins_term.a_binary = omega arith
 
--- what begins a term is found to do so
+-- a term that begins is found to begin
 pub opens_none : (text : List ℕ) → opening text ≡ None → ¬ BeginsTerm text
 opens_none text e (begins_term.an_integer i) = absurd (let some = opening_integer text (integer_begun i) in cc)
 opens_none text e (begins_term.a_word {c} {text = cs} l) = absurd (let some = opening_word c cs l in cc)
@@ -277,7 +277,7 @@ byte_blames whole text k h d room =
 
 -- ---- bare words
 
--- a word goes on behind so many of its characters
+-- a word goes on after this number of its characters
 record GoesOn (whole : List ℕ) (k : ℕ) (text : List ℕ) : Type 0 where
   next : ℕ
   rest : List ℕ
@@ -318,7 +318,7 @@ word_blames whole text n k h d =
 
 -- ---- quotes
 
--- marks that are those of quotes which continue so many characters
+-- marks are those of quotes that continue this number of characters
 pub record AreOf (whole : List ℕ) (m : Marks) (q : Quotes) (before : ℕ) : Type 0 where
   pub mark : m.mark ≡ mark_of q
   pub full : (k c : ℕ) (rest : List ℕ) → k ≡ m.room → Due whole (a_character q (before + k)) (c ∷ rest) → c ≢ mark_of q → Blames whole (m.past, suc (length rest))

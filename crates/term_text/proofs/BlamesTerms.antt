@@ -1,4 +1,4 @@
--- A reader that stops names what stands at the place where it stops: terms and whole texts.
+-- A reader that stops names the cause that is at the place where it stops: terms and whole texts.
 use Rattle.std.proofs.Common.{◌≡◌, ◌&&◌, ℕ, zero, suc, ◌+◌, ◌-◌, ◌≤◌, ◌<◌, inl, inr, true, false, List, [], ◌∷◌, length, take, Option, Some, None, refl, sym, ap, subst, ◌∙◌, arith}
 use Rattle.std.specs.Prelude.{IfOk, IfErr, IfSome, ◌==◌}
 use Rattle.std.specs.List.{Contains}
@@ -26,7 +26,7 @@ use Rattle.term_text.specs.Text.{Spelled}
 use Rattle.term_text.specs.Fault.{fault_of}
 use Rattle.term_text.specs.Causes.{Due, Due as due, WholeGap, Row, most_elements, BeginsTerm, IsTooDeep, IsTooLong, IsKeyTwice, IsOutOfRange, IsNoEscape, StandsAt, HasCause, BeginsInteger, BeginsWith, BeginsWithBoth, BeginsDot, FollowsElement, IsUnexpected, IsNew}
 use Rattle.term_text.specs.Causes.{BeginsTerm as begins_term}
-use Rattle.term_text.specs.Causes.IsUnexpected.{no_character, no_escaped, no_term, no_element, no_key, no_segment, behind_element, behind_tail, behind_key, behind_pair, behind_segment, no_dot}
+use Rattle.term_text.specs.Causes.IsUnexpected.{no_character, no_escaped, no_term, no_element, no_key, no_segment, behind_element, behind_tail, after_key, behind_pair, behind_segment, no_dot}
 use Rattle.term_text.specs.Causes.Place.{a_sentence, a_term, an_element, a_pair, a_segment}
 use Rattle.term_text.specs.Causes.Row.{in_tuple, in_list}
 use Rattle.term_text.specs.Causes.Quotes.{of_atom, of_string, of_bytes}
@@ -35,7 +35,7 @@ use Rattle.term_text.specs.Causes.IsTooLong.{one_element, one_pair, one_byte, on
 use Rattle.term_text.specs.Causes.IsKeyTwice.{key_twice}
 use Rattle.term_text.specs.Causes.IsOutOfRange.{wide_term, wide_segment, no_byte, no_byte_character}
 use Rattle.term_text.specs.Causes.IsNoEscape.{no_escape}
-use Rattle.term_text.specs.TokenReading.{Fails, after_gap, behind, behind_both, all_steps, expect, expect_both, opening, quoted_at, integer_at, word_at, dot_at, begins_gap}
+use Rattle.term_text.specs.TokenReading.{Fails, after_gap, behind, after_both, all_steps, expect, expect_both, opening, quoted_at, integer_at, word_at, dot_at, begins_gap}
 use Rattle.term_text.specs.Reading.{TermReader, TailReader, separated, enter, atom_marks, byte_marks, string_marks, string_at, segment_as, segment_at, segments_at, byte_at, bytes_at, binary_at, integer_term_at, word_term_at, quoted_atom_at, element_at, elements_at, items_at, tuple_at, list_at, list_end, list_from, end_at, has_key, pair_at, pairs_at, map_at, form_at, tail_form, term_at, tail_at, sentence_at, sentence_step, text_at}
 use Rattle.term_text.proofs.Words.{Opens, BeginsWord, opening_holds, opening_integer, behind_holds}
 use Rattle.term_text.proofs.Sound.{IsReader, IsTailReader, ElementRead, SegmentRead, PairRead, TailRead, cell_count-cells, enter_holds, element_holds, element_shrinks, segment_holds, segment_shrinks, pair_holds, pair_shrinks, expect_both_holds, term_holds, tail_holds}
@@ -48,7 +48,8 @@ use Rattle.term_text.proofs.Blames.{Left, Blames, at_once, whole_gap, gap_before
 use Rattle.term_text.proofs.Words.{BeginsInteger as IsIntegerStart}
 use Rattle.term_text.proofs.Blames.{integer_starts}
 
--- A place where a term with so many levels left is due if there is room for one more, and what else is wrong there.
+-- A term with this number of levels left is due at a place if there is room for one more, with what else may be wrong
+-- there.
 pub record TermDue (whole : List ℕ) (n room : ℕ) (text : List ℕ) : Type 0 where
   pub due_here : 0 < room → Due whole (a_term n 0) text
   pub deep : n ≡ 0 → BeginsTerm text → IsTooDeep whole text
@@ -64,7 +65,7 @@ one_due whole n text d =
       other = λ no. no_term d no;
     }
 
--- a reader of terms that names what stands where it stops
+-- a reader of terms that names the cause at the place where it stops
 abbrev pub BlamesTerm : List ℕ → ℕ → TermReader → Type 0
 BlamesTerm whole n read = (room : ℕ) (text : List ℕ) → TermDue whole n room text → IfErr (read room text) (Blames whole)
 
@@ -96,12 +97,12 @@ unfolding string_at
 string_blames whole text n front l d =
     bind_any (Blames whole) (quoted_at (string_marks n (length front)) text) _ (quoted_blames whole (string_marks n (length front)) (of_string n) (length front) (string_are whole n (length front) l) text (due.in_string d)) (λ x. tt)
 
--- where it does not stand, it is not found
+-- a text that is found not to begin with a character does not begin with it
 none_behind : (a : ℕ) (text : List ℕ) → behind a text ≡ None → ¬ BeginsWith a text
 none_behind a [] e h = h
 none_behind a (c ∷ cs) e h = let found = rw (eq-eqb c a h) at e in absurd cc
 
-neither : (a b : ℕ) (text : List ℕ) → behind_both a b text ≡ None → ¬ BeginsWithBoth a b text
+neither : (a b : ℕ) (text : List ℕ) → after_both a b text ≡ None → ¬ BeginsWithBoth a b text
 neither a b [] e h = h
 neither a b (x ∷ []) e h = h.1
 neither a b (x ∷ y ∷ ys) e h = let found = rw (eq-eqb x a h.0, eq-eqb y b h.1) at e in absurd cc
@@ -162,7 +163,7 @@ segments_blame : (whole text : List ℕ) → Due whole (a_segment 0) text → If
 segments_blame whole text d =
     separated_blames segment_at SegmentRead (SegmentDue whole) segment_holds (next_segment_due whole) (Blames whole) segment_shrinks (segment_blames whole) [] text (record { few = omega arith; place = d })
 
--- the last of some segments, and what stands behind it
+-- the last of some segments, and what follows it
 abbrev LastSegment : List ℕ → List ℕ × List ℕ → Type 0
 LastSegment whole x = LastItem SegmentRead (SegmentDue whole) x.0 x.1
 
@@ -174,7 +175,7 @@ after_segments whole x l no_end =
     let len = segment_count l.before l.text x.0 l.behind l.item in
     behind_segment l.good.place l.item.spelled (let few = l.item.within l.good.few in omega arith) l.gap l.no_comma no_end
 
-bytes_blame : (whole g : List ℕ) (o : Option (List ℕ)) → behind_both greater greater g ≡ o → (¬ BeginsWithBoth greater greater g → Due whole (a_segment 0) g) → IfErr (bytes_at o g) (Blames whole)
+bytes_blame : (whole g : List ℕ) (o : Option (List ℕ)) → after_both greater greater g ≡ o → (¬ BeginsWithBoth greater greater g → Due whole (a_segment 0) g) → IfErr (bytes_at o g) (Blames whole)
 bytes_blame whole g (Some rest) e d = tt
 bytes_blame whole g None e d =
     let here = d (neither greater greater g e) in
@@ -184,9 +185,9 @@ bytes_blame whole g None e d =
 binary_blames : (whole text : List ℕ) (n k : ℕ) → Due whole (a_term (suc n) k) (less ∷ less ∷ text) → IfErr (binary_at text) (Blames whole)
 unfolding binary_at
 binary_blames whole text n k d =
-    bind_any (Blames whole) (bytes_at (behind_both greater greater (after_gap false text)) (after_gap false text)) _ (bytes_blame whole (after_gap false text) (behind_both greater greater (after_gap false text)) refl (λ unclosed. due.in_binary d (whole_gap text) unclosed)) (λ x. tt)
+    bind_any (Blames whole) (bytes_at (after_both greater greater (after_gap false text)) (after_gap false text)) _ (bytes_blame whole (after_gap false text) (after_both greater greater (after_gap false text)) refl (λ unclosed. due.in_binary d (whole_gap text) unclosed)) (λ x. tt)
 
--- ---- a key that stands twice
+-- ---- a key that occurs twice
 
 pub has_one : (k : Datum) (es : List (Datum × Datum)) → has_key k es ≡ true → (v : Datum) × Contains es (k, v)
 has_one k [] h = absurd cc
@@ -241,7 +242,7 @@ module _ (whole : List ℕ) (n : ℕ) (read : TermReader) (reads : IsReader n re
     elements_blame front text few d =
         separated_blames (element_at read limit) (ElementRead n limit) ElementDue (element_holds n read reads limit) next_element_due (Blames whole) (element_shrinks n read reads limit) element_blames front text (record { few = few; place = d })
 
-    -- the last of some elements, and what stands behind it
+    -- the last of some elements, and what follows it
     abbrev LastElement : List Datum × List ℕ → Type 0
     LastElement x = LastItem (ElementRead n limit) ElementDue x.0 x.1
 
@@ -275,13 +276,13 @@ module _ (whole : List ℕ) (n : ℕ) (read : TermReader) (reads : IsReader n re
     few_elements : (ds : List Datum) (t : List ℕ) → LastOfList ds t → length ds ≤ MAX_LIST
     few_elements ds t l = let len = element_count in_list MAX_LIST refl l.before l.text ds l.behind l.item in let room = l.item.room in omega arith
 
-    -- the tail behind the elements
+    -- the tail after the elements is due
     tail_due : (ds : List Datum) (t u : List ℕ) → LastOfList ds t → t ≡ bar ∷ u → Due whole (a_term n (length ds)) (after_gap false u)
     tail_due ds t u l h =
         let len = element_count in_list MAX_LIST refl l.before l.text ds l.behind l.item in
         rw len (due.tail l.good.place (let room = l.item.room in omega arith) l.item.spelled (gap_before bar u l.gap h) (whole_gap u))
 
-    -- what stands behind a tail
+    -- what follows a tail and is no closing bracket is unexpected
     after_tail : (count before : ℕ) (text : List ℕ) (d : Datum) (t : List ℕ) → count ≡ suc before → Due whole (a_term n count) text → Spelled n text d t → count + cell_count d ≤ MAX_LIST → ¬ BeginsWith close_bracket (after_gap false t) → IsUnexpected whole (after_gap false t)
     after_tail count before text d t e due_here s few other = behind_tail (rw e at due_here) s (let same = e in omega arith) (whole_gap t) other
 
@@ -316,7 +317,7 @@ module _ (whole : List ℕ) (n : ℕ) (read : TermReader) (reads : IsReader n re
 
   -- ---- maps
 
-  -- the pairs that were read, in any order
+  -- the pairs read so far, in any order
   record PairDue (es : List (Datum × Datum)) (text : List ℕ) : Type 0 where
     seen : List (Datum × Datum)
     permuted : IsPermutation es seen
@@ -346,7 +347,7 @@ module _ (whole : List ℕ) (n : ℕ) (read : TermReader) (reads : IsReader n re
       (blames (MAX_MAP - length es) text (key_due es text g))
       (λ k key. if_blames (Blames whole) (has_key k.0 es) _ _ (λ h. at_once text (twice es text k.0 k.1 g key.0 key.1 h))
       (λ fresh. let few = pair_few es text g k.0 k.1 key.1 in let new = is_new k.0 es g.seen g.permuted fresh in bind_blames (λ (rest : List ℕ). after_gap false k.1 ≡ equals ∷ greater ∷ rest) (Blames whole) (expect_both equals greater (after_gap false k.1)) _ (expect_both_holds equals greater (after_gap false k.1))
-      (expect_both_blames whole equals greater (after_gap false k.1) (λ no. behind_key g.place few new key.0 (whole_gap k.1) no))
+      (expect_both_blames whole equals greater (after_gap false k.1) (λ no. after_key g.place few new key.0 (whole_gap k.1) no))
       (λ rest e. bind_any (Blames whole) (read 1 (after_gap false rest)) _
       (blames 1 (after_gap false rest) (one_due whole n (after_gap false rest) (due.value g.place few new key.0 (gap_before equals (greater ∷ rest) (whole_gap k.1) e) (whole_gap rest))))
       (λ v. tt))))
@@ -361,7 +362,7 @@ module _ (whole : List ℕ) (n : ℕ) (read : TermReader) (reads : IsReader n re
         place = due.next_pair g.place (let len = length_permutation s g.seen g.permuted in let room = p.room in omega arith) (is_new p.key s g.seen g.permuted p.fresh) p.spelled gap b;
       }
 
-  -- the last of some pairs, and what stands behind it
+  -- the last of some pairs, and what follows it
   abbrev LastPair : List (Datum × Datum) × List ℕ → Type 0
   LastPair x = LastItem (PairRead n) PairDue x.0 x.1
 
@@ -513,7 +514,7 @@ unexpected_ends text rest (no_key d b) = due_ends d
 unexpected_ends text rest (no_segment d b q) = due_ends d
 unexpected_ends text rest (behind_element d l s g n) = then (due_ends d) (then (spelled_ends s) (whole_gap_ends g))
 unexpected_ends text rest (behind_tail d s l g n) = then (due_ends d) (then (spelled_ends s) (whole_gap_ends g))
-unexpected_ends text rest (behind_key d l f s g n) = then (due_ends d) (then (spelled_ends s) (whole_gap_ends g))
+unexpected_ends text rest (after_key d l f s g n) = then (due_ends d) (then (spelled_ends s) (whole_gap_ends g))
 unexpected_ends text rest (behind_pair d l f p g c n) = then (due_ends d) (then (pair_ends p) (whole_gap_ends g))
 unexpected_ends text rest (behind_segment d s l g c n) = then (due_ends d) (then (segment_ends s) (whole_gap_ends g))
 unexpected_ends text rest (no_dot d s g n) = then (due_ends d) (then (spelled_ends s) (whole_gap_ends g))

@@ -1,12 +1,12 @@
 -- The bytes of canonical texts.
-use Rattle.std.proofs.Common.{◌≡◌, ℕ, suc, ◌+◌, ◌^◌, ◌≤◌, ◌<◌, Bool, true, false, List, [], ◌∷◌, ◌++◌, length, get_or, drop, max, ℤ, pos, negsuc, Option, Some, None, refl, sym, ap, ◌∙◌, arith, append_assoc, decimal}
+use Rattle.std.proofs.Common.{◌≡◌, ℕ, suc, ◌+◌, ◌/◌, ◌%◌, ◌^◌, ◌≤◌, ◌<◌, Bool, true, false, List, [], ◌∷◌, ◌++◌, length, get_or, drop, max, ℤ, pos, negsuc, Option, Some, None, refl, sym, ap, ◌∙◌, arith, append_assoc, decimal}
 use Rattle.std.specs.Prelude.{◌&&◌, FitsSigned}
 use Rattle.std.specs.Int.{w64}
 use Rattle.std.specs.Fmt.{signed_decimal}
 use Rattle.std.specs.Str.{encode_utf8_all}
 use Rattle.std.proofs.Math.Utf8.{encode}
 use Rattle.std.proofs.lemmas.Int.{ints}
-use Rattle.std.proofs.lemmas.Fmt.{IsAscii-decimal}
+use Rattle.std.proofs.lemmas.Fmt.{IsAscii-decimal, decimal_digit, decimal_step}
 use Rattle.std.proofs.lemmas.Str.{encodes-append, encodes-IsAscii}
 use Rattle.term_core.specs.Datum.{Datum, Items, Entries, items_of, entries_of, cells}
 use Rattle.term_core.specs.Datum.Datum.{integer, atom, tuple, map, nil, cons, binary}
@@ -70,7 +70,7 @@ binary_is f bs = refl
 
 -- ---- lists
 
--- the tail of a list behind a bar, nothing where there is none
+-- the bytes of a list's tail after a bar, none if there is no tail
 abbrev pub tail_bytes : (f : Form) → Option Datum → List ℕ
 tail_bytes f None = []
 tail_bytes f (Some d) = bar ∷ encode_utf8_all (text_as f d)
@@ -113,7 +113,7 @@ unfolding text_as
 string_text f [] t h s p = absurd (omega arith)
 string_text f (d ∷ ds) t h s p = rw (s, p) refl
 
--- what has a tail is no string
+-- a list with a tail of its own is not a string
 pub no_string : (ds : List Datum) (t : Datum) → IsTail (Some t) → is_string (cells ds t) ≡ false
 no_string [] (integer z) h = refl
 no_string [] (atom cs) h = refl
@@ -223,7 +223,7 @@ no_cells : (ds : List Datum) (t : Datum) → 0 < length ds → is_character (cel
 no_cells [] t h = absurd (omega arith)
 no_cells (d ∷ ds) t h = refl
 
--- no other term is a character
+-- a term that is not an integer is not a character
 no_character_shown : {A : Type 0} (v : View A) → IsSplit v → ((z : ℤ) → v ≡ view.Integer z → ⊥) → is_character (shown v) ≡ false
 no_character_shown (view.Integer z) split other = absurd (other z refl)
 no_character_shown (view.Atom cs) split other = refl
@@ -248,7 +248,7 @@ string_bytes f ds (Some t) h k e =
     let no : is_string (cells ds t) ≡ false = no_string ds t k in
     absurd cc
 
--- an element of a string is a character, which stands before those of the others
+-- an element of a string is a character, written before those of the others
 pub next_code : (ds : List Datum) (i : ℕ) (d : Datum) → i < length ds → d ≡ get_or ds i d → is_string (cells (drop i ds) nil) ≡ true → (is_character d ≡ true) × (is_string (cells (drop (i + 1) ds) nil) ≡ true) × (encode_utf8_all (quoted_characters double_quote (codes_of (cells (drop i ds) nil))) ≡ encode_utf8_all (quoted_character double_quote (code_of d)) ++ encode_utf8_all (quoted_characters double_quote (codes_of (cells (drop (i + 1) ds) nil))))
 next_code ds i d h e s =
     let split : drop i ds ≡ d ∷ drop (i + 1) ds = drop_more ds i d h ∙ ap (λ (x : Datum). x ∷ drop (i + 1) ds) (sym e) in
@@ -261,7 +261,7 @@ past_codes ds i h = ap (λ (t : List Datum). encode_utf8_all (quoted_characters 
 pub past_shown : (bs : List ℕ) (i : ℕ) → length bs ≤ i → encode_utf8_all (quoted_characters double_quote (drop i bs)) ≡ []
 past_shown bs i h = ap (λ (t : List ℕ). encode_utf8_all (quoted_characters double_quote t)) (drop_all i bs h)
 
--- what stands when the closing mark is put
+-- the text after the closing mark is appended
 pub marked : (old cs rest out n : List ℕ) → out ++ rest ≡ old ++ (double_quote ∷ encode_utf8_all (quoted_characters double_quote cs)) → rest ≡ [] → n ≡ out ++ double_quote ∷ [] → n ≡ old ++ encode_utf8_all (quoted_text double_quote cs)
 marked old cs rest out n e r f =
     f ∙ ap (λ (t : List ℕ). t ++ double_quote ∷ []) (sym (append-nil out) ∙ ap (λ (t : List ℕ). out ++ t) (sym r) ∙ e)
@@ -270,3 +270,14 @@ marked old cs rest out n e r f =
 
 pub no_string_in : (f : Form) (ds : List Datum) (t : Datum) → IsTail (Some t) → false ≡ shows_strings f && is_string (cells ds t)
 no_string_in f ds t h = sym (and_false (shows_strings f) (is_string (cells ds t)) (no_string ds t h))
+
+-- ---- decimal numbers below 256
+
+pub one_digit : (n : ℕ) → n < 10 → decimal n ≡ (48 + n) ∷ []
+one_digit n h = decimal_digit n h
+
+pub digits_more : (old mid new : List ℕ) (n : ℕ) → 10 ≤ n → n < 256 → mid ≡ old ++ decimal (n / 10) → new ≡ mid ++ (48 + n % 10) ∷ [] → new ≡ old ++ decimal n
+digits_more old mid new n l h first last = last ∙ rw (first, decimal_step n l (omega arith)) (append_assoc old (decimal (n / 10)) ((48 + n % 10) ∷ []))
+
+pub two_digits : (old mid new : List ℕ) (n : ℕ) → 10 ≤ n → n < 100 → mid ≡ old ++ (48 + n / 10) ∷ [] → new ≡ mid ++ (48 + n % 10) ∷ [] → new ≡ old ++ decimal n
+two_digits old mid new n l h first last = digits_more old mid new n l (omega arith) (first ∙ rw (decimal_digit (n / 10) (omega arith)) refl) last

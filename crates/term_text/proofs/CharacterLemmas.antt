@@ -10,7 +10,7 @@ use Rattle.std.specs.List.{slice_get}
 use Rattle.term_text.specs.Character.{EndsAscii, line_feed, percent, minus, plus, dot, single_quote, double_quote, open_brace, open_bracket, number_sign, less, is_white_space, is_word}
 use Rattle.term_text.specs.declared.stop.Cause.TheVariants.{Syntax}
 use Rattle.term_text.specs.Tokens.{EndsRun}
-use Rattle.term_text.specs.TokenReading.{after_gap, behind, behind_both, begins, begins_gap, dot_at, expect, expect_both, number_run, behind_sign, opening, is_sign}
+use Rattle.term_text.specs.TokenReading.{after_gap, behind, after_both, begins, begins_gap, dot_at, expect, expect_both, number_run, after_sign, opening, is_sign}
 
 -- ---- the first byte
 
@@ -30,7 +30,7 @@ first_is b c bs bytes e some = let same : this b ≡ this c = rw e at some in cc
 not_empty : (b : ℕ) (bytes : List ℕ) → bytes ≡ [] → this b ≡ slice_get bytes 0 → ⊥
 not_empty b bytes e some = let other : this b ≡ nothing = rw e at some in cc
 
--- a byte below 128 is a character, and what is behind it another text
+-- a byte below 128 is a character, and what follows it is a text
 pub first_ascii : (text bytes rest : List ℕ) (b : ℕ) → IsUtf8 text → bytes ≡ text → this b ≡ slice_get bytes 0 → b < 128 → rest ≡ drop 1 text → chars text ≡ b ∷ chars rest
 first_ascii [] bytes rest b utf8 e some small r = absurd (not_empty b bytes e some)
 first_ascii (c ∷ bs) bytes rest b utf8 e some small r =
@@ -42,7 +42,7 @@ pub cut_behind : (text bytes : List ℕ) (b : ℕ) → IsUtf8 text → bytes ≡
 cut_behind [] bytes b utf8 e some small = absurd (not_empty b bytes e some)
 cut_behind (c ∷ bs) bytes b utf8 e some small = let is : b ≡ c = first_is b c bs bytes e some in IsCharBoundary-after_ascii (c ∷ bs) 0 utf8 (omega arith) (rw is at small)
 
-wide_first : (text cs : List ℕ) → encode_utf8_all cs ≡ text → 128 ≤ get_or text 0 0 → EndsAscii cs
+pub wide_first : (text cs : List ℕ) → encode_utf8_all cs ≡ text → 128 ≤ get_or text 0 0 → EndsAscii cs
 wide_first text [] e wide = tt
 wide_first text (c ∷ cs) e wide = elim (cases_lt c 128) [
   | inl small ↦ absurd (let is : get_or text 0 0 ≡ c = byte_from_char text (encode_utf8_all cs) c (sym e) small in omega arith)
@@ -57,18 +57,18 @@ some_alike : (b : ℕ) (bs cs : List ℕ) → encode_utf8_all cs ≡ b ∷ bs �
 some_alike b bs [] e = absurd cc
 some_alike b bs (c ∷ cs) e = ne_eqb (suc (length bs)) 0 (λ z. omega arith) ∙ sym (ne_eqb (suc (length cs)) 0 (λ z. omega arith))
 
--- a text has characters where it has bytes
+-- a text has characters if it has bytes
 pub empty_alike : (bs : List ℕ) → IsUtf8 bs → (length bs == 0) ≡ (length (chars bs) == 0)
 empty_alike [] utf8 = rw chars-nil refl
 empty_alike (b ∷ bs) utf8 = some_alike b bs (chars (b ∷ bs)) (encodes-chars (b ∷ bs) utf8)
 
--- ---- where no ASCII character comes next
+-- ---- text that doesn't begin with an ASCII character
 
 pub no_gap : (text : List ℕ) → EndsAscii text → text ≡ after_gap false text
 no_gap [] ends = refl
 no_gap (c ∷ text) ends = let percent : (c == percent) ≡ false = grind arith in let white : is_white_space c ≡ false = grind arith in rw (percent, white) refl
 
--- a gap goes on behind a line feed
+-- a gap goes on after a line feed
 pub behind_line_feed : (text rest left : List ℕ) (c : ℕ) → text ≡ c ∷ rest → c ≡ line_feed → left ≡ after_gap false rest → left ≡ after_gap false text
 behind_line_feed text rest left c e feed is = rw (e, feed) is
 
@@ -84,7 +84,7 @@ pub no_more_digits : (n : ℕ) (text : List ℕ) → EndsAscii text → number_r
 no_more_digits n [] ends = refl
 no_more_digits n (c ∷ text) ends = let digit : is_ascii_digit c ≡ false = grind arith in rw digit refl
 
-pub no_sign : (text : List ℕ) → EndsAscii text → (false, text) ≡ behind_sign text
+pub no_sign : (text : List ℕ) → EndsAscii text → (false, text) ≡ after_sign text
 no_sign [] ends = refl
 no_sign (c ∷ text) ends = let one : (c == minus) ≡ false = grind arith in let other : (c == plus) ≡ false = grind arith in rw (one, other) refl
 
@@ -110,7 +110,7 @@ no_opening (c ∷ text) ends =
     let below : (c == less) ≡ false = grind arith in
     rw (digit, sign, lowercase, quote, quotes, brace, bracket, number, below) refl
 
--- ---- tokens of one or two characters, by what is behind them
+-- ---- tokens of one or two characters, by what follows them
 
 abbrev given : List ℕ → Option (List ℕ)
 given rest = Some rest
@@ -129,7 +129,7 @@ not_expected c (x ∷ text) e = elim (cases_Bool (x == c)) [
   | inr other ↦ rw other refl
 ]
 
-pub behind_second : (a b : ℕ) (text rest : List ℕ) → Some rest ≡ behind a text → behind b rest ≡ behind_both a b text
+pub behind_second : (a b : ℕ) (text rest : List ℕ) → Some rest ≡ behind a text → behind b rest ≡ after_both a b text
 behind_second a b [] rest e = absurd cc
 behind_second a b (x ∷ []) rest e = elim (cases_Bool (x == a)) [
   | inl here ↦ let same : given rest ≡ given [] = rw here at e in let is : rest ≡ [] = cc in rw is refl
@@ -140,7 +140,7 @@ behind_second a b (x ∷ y ∷ ys) rest e = elim (cases_Bool (x == a)) [
   | inr other ↦ absurd (let none = rw other at e in cc)
 ]
 
-pub no_second : (a b : ℕ) (text : List ℕ) → None ≡ behind a text → None ≡ behind_both a b text
+pub no_second : (a b : ℕ) (text : List ℕ) → None ≡ behind a text → None ≡ after_both a b text
 no_second a b [] e = refl
 no_second a b (x ∷ []) e = refl
 no_second a b (x ∷ y ∷ ys) e = elim (cases_Bool (x == a)) [
@@ -148,7 +148,7 @@ no_second a b (x ∷ y ∷ ys) e = elim (cases_Bool (x == a)) [
   | inr other ↦ rw other refl
 ]
 
-pub both_expected : (a b : ℕ) (text rest : List ℕ) → Some rest ≡ behind_both a b text → expect_both a b text ≡ Ok rest
+pub both_expected : (a b : ℕ) (text rest : List ℕ) → Some rest ≡ after_both a b text → expect_both a b text ≡ Ok rest
 both_expected a b [] rest e = absurd cc
 both_expected a b (x ∷ []) rest e = absurd cc
 both_expected a b (x ∷ y ∷ ys) rest e = elim (cases_Bool (x == a && y == b)) [
@@ -156,7 +156,7 @@ both_expected a b (x ∷ y ∷ ys) rest e = elim (cases_Bool (x == a && y == b))
   | inr other ↦ absurd (let none = rw other at e in cc)
 ]
 
-pub both_not_expected : (a b : ℕ) (text : List ℕ) → None ≡ behind_both a b text → expect_both a b text ≡ Err (Syntax, length text)
+pub both_not_expected : (a b : ℕ) (text : List ℕ) → None ≡ after_both a b text → expect_both a b text ≡ Err (Syntax, length text)
 both_not_expected a b [] e = refl
 both_not_expected a b (x ∷ []) e = refl
 both_not_expected a b (x ∷ y ∷ ys) e = elim (cases_Bool (x == a && y == b)) [

@@ -1,4 +1,4 @@
--- Where the reader makes a term, the term is within its limits.
+-- Each term that the reader makes is within its limits.
 use Rattle.std.proofs.Common.{◌≡◌, ℕ, suc, ◌+◌, ◌-◌, ◌≤◌, ◌<◌, Bool, true, false, List, [], ◌∷◌, ◌++◌, length, None, Ok, refl, ap, ◌∙◌, arith}
 use Rattle.std.proofs.Common.{map as each}
 use Rattle.std.proofs.lemmas.List.{length-append, length-map}
@@ -11,7 +11,7 @@ use Rattle.term_text.specs.Text.{Spelled, code_point}
 use Rattle.term_text.specs.declared.token.Opening.{Opening}
 use Rattle.term_text.specs.declared.token.Opening.TheVariants as opens
 use Rattle.term_text.specs.TokenReading.{after_gap, expect, expect_both, quoted_at, word_at, all_steps}
-use Rattle.term_text.specs.Reading.{IsWithin, AreElements, enter, atom_marks, string_marks, segments_at, bytes_at, element_at, elements_at, items_at, separated, behind_comma, pair_at, pairs_at, form_at, term_at, tail_at}
+use Rattle.term_text.specs.Reading.{IsWithin, AreElements, enter, atom_marks, string_marks, segments_at, bytes_at, element_at, elements_at, items_at, separated, after_comma, pair_at, pairs_at, form_at, term_at, tail_at}
 use Rattle.term_text.proofs.Steps.{bind_holds, holds_at, Hands, steps_hold}
 use Rattle.term_text.proofs.Tokens.{Reads, quoted_holds}
 use Rattle.term_text.proofs.Items.{gap_some}
@@ -41,10 +41,13 @@ string_within levels front text cs rest h e =
     let deep = depth-cells 254 (front ++ each code_point cs) nil (append_depth 254 front (each code_point cs) (omega arith) (omega arith)) (omega arith) in
     (omega arith, short_cells (front ++ each code_point cs) nil (at_most (cell_count (cells (front ++ each code_point cs) nil)) (length front + length cs) MAX_LIST count few) (λ long. long))
 
+pub binary_made : (text bytes rest : List ℕ) → bytes_at None (after_gap false text) ≡ Ok (bytes, rest) → IsWithin (binary bytes)
+binary_made text bytes rest made = spelled_within {n = 1} (omega arith) (holds_at (λ (x : List ℕ × List ℕ). Spelled 1 (less ∷ less ∷ text) (binary x.0) x.1) (bytes_at None (after_gap false text)) (bytes, rest) (bytes_hold 0 text (after_gap false text) None (gap_some text) tt) made)
+
 pub binary_within : (text bytes t rest : List ℕ) → segments_at [] (after_gap false text) ≡ Ok (bytes, t) → expect_both greater greater t ≡ Ok rest → IsWithin (binary bytes)
 binary_within text bytes t rest e f =
     let made : bytes_at None (after_gap false text) ≡ Ok (bytes, rest) = rw (e, f) refl in
-    spelled_within {n = 1} (omega arith) (holds_at (λ (x : List ℕ × List ℕ). Spelled 1 (less ∷ less ∷ text) (binary x.0) x.1) (bytes_at None (after_gap false text)) (bytes, rest) (bytes_hold 0 text (after_gap false text) None (gap_some text) tt) made)
+    binary_made text bytes rest made
 
 pub tuple_within : (n : ℕ) (text : List ℕ) (ds : List Datum) (t rest : List ℕ) → n < MAX_DEPTH → elements_at (term_at n) MAX_TUPLE [] (after_gap false text) ≡ Ok (ds, t) → expect close_brace t ≡ Ok rest → IsWithin (tuple (items_of ds))
 tuple_within n text ds t rest l e f =
@@ -59,7 +62,7 @@ map_within n text es t rest l e f =
 -- ---- lists
 
 module _ (n : ℕ) (shallow : n < MAX_DEPTH) where
-  -- elements that a list may begin with stay so
+  -- elements that a list may begin with, after more were read
   abbrev Kept : List Datum → List ℕ → List Datum → List ℕ → Type 0
   Kept ds text es rest = AreElements ds → AreElements es
 
@@ -75,7 +78,7 @@ module _ (n : ℕ) (shallow : n < MAX_DEPTH) where
       holds_at (λ (x : List Datum × List ℕ). Kept front text x.0 x.1) (elements_at (term_at n) MAX_LIST front text) (ds, rest)
       (steps_hold (separated (element_at (term_at n) MAX_LIST)) Kept
       (λ s text. bind_holds (λ (x : List Datum × List ℕ). ElementRead n MAX_LIST s text x.0 x.1) (Hands (separated (element_at (term_at n) MAX_LIST)) Kept s text) (element_at (term_at n) MAX_LIST s text) _ (element_holds n (term_at n) (term_holds n) MAX_LIST s text)
-      (λ x r. kept_on s text x.0 x.1 r (behind_comma x.1).0 (behind_comma x.1).1))
+      (λ x r. kept_on s text x.0 x.1 r (after_comma x.1).0 (after_comma x.1).1))
       (suc (length text)) front text) e h
 
 pub tail_within : (levels : ℕ) (front : List Datum) (text : List ℕ) (o : Opening) (rest : List ℕ) (tail : Datum) (t : List ℕ) → levels < MAX_DEPTH → AreElements front → enter levels 1 text ≡ Ok (o, rest) → (o ≡ opens.String → ⊥) → (o ≡ opens.List → ⊥)

@@ -1,4 +1,4 @@
--- What is left of a text is its end.
+-- The remaining text is the end of the whole text.
 use Rattle.std.proofs.Common.{◌≡◌, ℕ, ℤ, Bool, List, [], ◌∷◌, ◌++◌, refl, sym, ap, ◌∙◌, append_assoc}
 use Rattle.std.proofs.lemmas.List.{append-nil}
 use Rattle.term_core.specs.Datum.{Datum}
@@ -18,7 +18,7 @@ use Rattle.term_text.specs.Causes.{Place, Due, WholeGap}
 use Rattle.term_text.specs.Causes.WholeGap.{up_to, to_the_end}
 use Rattle.term_text.specs.Causes.{Due as due}
 
--- the text ends in the rest
+-- the text ends with the rest
 pub record EndsIn (text rest : List ℕ) : Type 0 where
   pub front : List ℕ
   pub whole : text ≡ front ++ rest
@@ -32,7 +32,7 @@ past c h = record { front = c ∷ h.front; whole = ap (λ (t : List ℕ). c ∷ 
 pub then : {text t rest : List ℕ} → EndsIn text t → EndsIn t rest → EndsIn text rest
 then {text} {t} {rest} h k = record { front = h.front ++ k.front; whole = h.whole ∙ ap (λ (u : List ℕ). h.front ++ u) k.whole ∙ sym (append_assoc h.front k.front rest) }
 
--- behind the first of what is left
+-- the text after the first character of an end is an end
 pub behind : (c : ℕ) {text rest : List ℕ} → EndsIn text (c ∷ rest) → EndsIn text rest
 behind c {text} {rest} h = then h (past c (here rest))
 
@@ -102,7 +102,7 @@ mutual
   pairs_end (last_pair p g) = then (pair_ends p) (gap_ends g)
   pairs_end (more_pairs p g h ps) = then (pair_ends p) (then (behind _ (gap_ends g)) (then (gap_ends h) (pairs_end ps)))
 
--- what is due, is due at an end of the text
+-- what is due is due at an end of the text
 pub due_ends : {text rest : List ℕ} {p : Place} → Due text p rest → EndsIn text rest
 due_ends (due.first g) = whole_gap_ends g
 due_ends (due.behind_dot d s g b h) = then (due_ends d) (then (spelled_ends s) (then (behind _ (gap_ends g)) (whole_gap_ends h)))

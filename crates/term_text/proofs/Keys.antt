@@ -1,4 +1,4 @@
--- The pairs of a map: put in by their keys, each key once.
+-- The pairs of a map: inserted by key, each key once.
 use Rattle.std.proofs.Common.{◌≡◌, ◌&&◌, cond, ℕ, ◌+◌, ◌≤◌, ◌<◌, inl, inr, Bool, true, false, List, [], ◌∷◌, ◌++◌, refl, sym, ap, ◌∙◌, arith}
 use Rattle.std.proofs.lemmas.Bool.{or_parts, or_from, and_parts, cases_Bool}
 use Rattle.std.proofs.lemmas.List.{append-nil}
@@ -21,23 +21,23 @@ use Rattle.term_core.specs.MapPairs as map_pairs
 use Rattle.term_core.specs.MapPairs.{IsMapOf}
 use Rattle.term_text.specs.Reading.{has_key}
 
--- each key below the next
+-- each key is below the next
 abbrev pub AreRising : List (Datum × Datum) → Type 0
 AreRising es = map_pairs.AreRising (entries_of es)
 
 below_at : (a b : Datum) (o : Ordering) → datum_cmp a b ≡ o → MatchOrdering o (IsBelow a b) (a ≡ b) (IsBelow b a)
 below_at a b o e = rw e at (datum_cmp-says a b)
 
-below_from : (a b : Datum) → datum_cmp a b ≡ Less → IsBelow a b
+pub below_from : (a b : Datum) → datum_cmp a b ≡ Less → IsBelow a b
 below_from a b e = below_at a b Less e
 
-above_from : (a b : Datum) → datum_cmp a b ≡ Greater → IsBelow b a
+pub above_from : (a b : Datum) → datum_cmp a b ≡ Greater → IsBelow b a
 above_from a b e = below_at a b Greater e
 
-below_trans : (a b c : Datum) → IsBelow a b → IsBelow b c → IsBelow a c
+pub below_trans : (a b c : Datum) → IsBelow a b → IsBelow b c → IsBelow a c
 below_trans a b c h k = below_from a c (datum_cmp_total.trans a b c (IsBelow-less a b h) (IsBelow-less b c k))
 
--- ---- putting one pair in
+-- ---- inserting one pair
 
 abbrev put : List (Datum × Datum) → Datum → Datum → List (Datum × Datum)
 put es k v = insert_entry datum_cmp es k v
@@ -72,7 +72,7 @@ pub put_rises : (k v : Datum) (es : List (Datum × Datum)) → AreRising es → 
 put_rises k v [] h = (tt, tt)
 put_rises k v (e ∷ es) h = rise_case k v e es (datum_cmp k e.0) refl h (put_rises k v es h.1)
 
--- ---- how often a key, and a pair, stands in a list
+-- ---- how often a key, or a pair, occurs in a list
 
 abbrev one_if : Bool → ℕ
 one_if b = cond b 1 0
@@ -156,8 +156,8 @@ key_itself k v = rw (is_eq-same k) refl
 pair_itself : (k v : Datum) → pair_is k v (k, v) ≡ 1
 pair_itself k v = rw (is_eq-same k, is_eq-same v) refl
 
--- what is below the first key of a rising list is none of its keys
-above_none : (k : Datum) (es : List (Datum × Datum)) → AreRising es → IsBelowFirst k (entries_of es) → key_count k es ≡ 0
+-- a key below the first of ascending keys is none of them
+pub above_none : (k : Datum) (es : List (Datum × Datum)) → AreRising es → IsBelowFirst k (entries_of es) → key_count k es ≡ 0
 above_none k [] h b = key_count-none k
 above_none k (e ∷ []) h b =
     let a = key_count-more k e [] in let n = key_count-none k in
@@ -167,7 +167,7 @@ above_none k (e ∷ f ∷ es) h b =
     let less : key_is k e ≡ 0 = rw (IsBelow-less k e.0 b) refl in
     let rest = above_none k (f ∷ es) h.1 (below_trans k e.0 f.0 b h.0) in omega arith
 
--- a key stands once in a rising list
+-- a key occurs at most once in an ascending list
 pub key_once : (k : Datum) (es : List (Datum × Datum)) → AreRising es → key_count k es ≤ 1
 key_once k [] h = let n = key_count-none k in omega arith
 key_once k (e ∷ es) h =
@@ -204,7 +204,7 @@ same_head x y xs ys Equal c h k same =
     let both = and_parts (is_eq (datum_cmp x.0 y.0)) (is_eq (datum_cmp x.1 y.1)) (one_if-true (is_eq (datum_cmp x.0 y.0) && is_eq (datum_cmp x.1 y.1)) counted) in
     pair_same x y keys (datum_cmp-equal x.1 y.1 (is_eq-equal (datum_cmp x.1 y.1) both.1))
 
--- two rising lists of the same pairs are one
+-- two ascending lists of the same pairs are equal
 rising_same : (xs ys : List (Datum × Datum)) → AreRising xs → AreRising ys → ((k v : Datum) → pair_count k v xs ≡ pair_count k v ys) → xs ≡ ys
 rising_same [] [] h k same = refl
 rising_same [] (y ∷ ys) h k same = absurd (let a = head_counts y ys in let b = same y.0 y.1 in let n = pair_count-none y.0 y.1 in omega arith)
@@ -217,7 +217,7 @@ rising_same (x ∷ xs) (y ∷ ys) h k same =
 pub rising_unique : (xs ys : List (Datum × Datum)) → AreRising xs → AreRising ys → IsPermutation xs ys → xs ≡ ys
 rising_unique xs ys h k p = rising_same xs ys h k (λ q w. sym (pair_count-permuted q w xs ys p))
 
--- ---- putting in one pair after the other
+-- ---- inserting one pair after the other
 
 pub put_all : List (Datum × Datum) → List (Datum × Datum) → List (Datum × Datum)
 put_all front [] = front
@@ -231,7 +231,7 @@ pub put_all-more : (front : List (Datum × Datum)) (k v : Datum) (es : List (Dat
 unfolding put_all
 put_all-more front k v es = refl
 
--- no key stands twice
+-- no key occurs twice
 pub record AreApart (front es : List (Datum × Datum)) : Type 0 where
   pub once : (k : Datum) → key_count k front + key_count k es ≤ 1
 
@@ -264,16 +264,16 @@ put_all_rises front (e ∷ es) h = put_all_rises (put front e.0 e.1) es (put_ris
 pub apart_at_first : (es ordered : List (Datum × Datum)) → IsPermutation es ordered → AreRising ordered → AreApart [] es
 apart_at_first es ordered p h = record { once = λ k. let a = key_once k ordered h in let b = key_count-permuted k es ordered p in let n = key_count-none k in omega arith }
 
--- pairs in any order give the one list by rising key
+-- inserting pairs in any order gives the one list in ascending key order
 pub put_all_ordered : (es ordered : List (Datum × Datum)) → IsPermutation es ordered → AreRising ordered → put_all [] es ≡ ordered
 put_all_ordered es ordered p h =
     let apart = apart_at_first es ordered p h in
     let made : IsPermutation es (put_all [] es) = rw append-nil at (put_all_permutes [] es apart) in
     rising_unique (put_all [] es) ordered (put_all_rises [] es tt) h (IsPermutation-trans (put_all [] es) es ordered (IsPermutation-sym es (put_all [] es) made) p)
 
--- ---- the map of pairs that stand by rising key
+-- ---- the map of pairs in ascending key order
 
-sorted_rises : (es : List (Datum × Datum)) → IsStrictlySortedBy datum_cmp (keys_of es) → map_pairs.AreRising (entries_of es)
+pub sorted_rises : (es : List (Datum × Datum)) → IsStrictlySortedBy datum_cmp (keys_of es) → map_pairs.AreRising (entries_of es)
 sorted_rises [] h = tt
 sorted_rises (e ∷ []) h = (tt, tt)
 sorted_rises (e ∷ f ∷ es) h = (below_from e.0 f.0 (sorted_head datum_cmp e.0 (keys_of (f ∷ es)) h).0, sorted_rises (f ∷ es) (sorted_tail datum_cmp e.0 (keys_of (f ∷ es)) h))

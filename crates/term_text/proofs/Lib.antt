@@ -23,3 +23,6 @@ pub mod Stops
 pub mod Meets
 pub mod Nexts
 pub mod AddedLemmas
+mod ByteWords
+mod QuotedRuns
+mod Places

@@ -1,4 +1,5 @@
--- What is due, the reader comes to: what it stops for there, it stops for in the whole text. So it stops for each cause.
+-- The reader comes to each place that is due: what it stops for there, it stops for in the whole text. So it stops for
+-- each cause.
 use Rattle.std.proofs.Common.{◌≡◌, ◌≢◌, ℕ, ◌+◌, ◌-◌, List, length, take, Err, refl, sym, ap, ◌∙◌, arith}
 use Rattle.std.specs.Str.{chars}
 use Rattle.std.proofs.lemmas.List.{length-append, take_at}
@@ -13,7 +14,7 @@ use Rattle.term_text.specs.Fault.{at_byte, fault_of}
 use Rattle.term_text.specs.Laws.{IsRefusal, HasOneFault}
 use Rattle.term_text.specs.Causes.{Due, Due as due, Place, IsTooDeep, IsTooLong, IsKeyTwice, IsOutOfRange, IsNoEscape, IsUnexpected, StandsAt, HasCause}
 use Rattle.term_text.specs.Causes.Place.{a_sentence, a_term, an_element, a_pair, a_segment, a_character, a_letter}
-use Rattle.term_text.specs.Causes.IsUnexpected.{no_character, no_escaped, no_term, no_element, no_key, no_segment, behind_element, behind_tail, behind_key, behind_pair, behind_segment, no_dot}
+use Rattle.term_text.specs.Causes.IsUnexpected.{no_character, no_escaped, no_term, no_element, no_key, no_segment, behind_element, behind_tail, after_key, behind_pair, behind_segment, no_dot}
 use Rattle.term_text.specs.Causes.IsTooDeep.{deep_term, deep_element, deep_key, deep_character}
 use Rattle.term_text.specs.Causes.IsTooLong.{one_element, one_pair, one_byte, one_character, one_letter}
 use Rattle.term_text.specs.Causes.IsKeyTwice.{key_twice}
@@ -25,7 +26,7 @@ use Rattle.term_text.proofs.Texts.{text_again}
 use Rattle.term_text.proofs.Publics.{not_both}
 use Rattle.term_text.proofs.Stops.{TermStops, RowStops, PairsStop, SegmentsStop, QuotesStop, WordStops, SentencesStop, text_stops, behind_dot_stops, outermost_stops, in_braces_stops, in_brackets_stops, next_element_stops, element_stops, tail_stops, in_map_stops, next_pair_stops, key_stops, value_stops, in_binary_stops, next_segment_stops, in_atom_stops, in_string_stops, in_segment_stops, behind_plain_stops, behind_escape_stops, in_word_stops, next_letter_stops, deep_stops, none_stops, none_alone, deep_alone, full_alone, wide_term_stops, wide_opens, at_element, at_pair, at_segment, full_segment, byte_stops, wide_byte, no_byte_opens, no_byte_stops, no_segment_stops, one_letter_stops, one_character_stops, deep_character_stops, no_byte_character_stops, no_escape_stops, no_character_stops, no_escaped_stops, twice_stops, behind_element_stops, behind_tail_stops, behind_key_stops, behind_pair_stops, behind_segment_stops, no_dot_stops}
 
--- what is due at a place stops the reader for this
+-- what is due at a place stops the reader with this fault
 abbrev Stopped : Place → List ℕ → Fault → Type 0
 Stopped a_sentence text f = SentencesStop text f
 Stopped (a_term n k) text f = TermStops n k text f
@@ -92,14 +93,14 @@ unexpected_met text rest (no_key {n} {es} d never) = met d _ (at_pair n es rest 
 unexpected_met text rest (no_segment {k} d never quote) = met d _ (at_segment k rest _ (λ bytes len. no_segment_stops bytes rest never quote))
 unexpected_met text rest (behind_element {r} {n} {k} d l s g never) = met d _ (behind_element_stops r n k l s g never)
 unexpected_met text rest (behind_tail {n} {k} d s l g never) = met d _ (behind_tail_stops n k s l g never)
-unexpected_met text rest (behind_key {n} {es} d l new s g never) = met d _ (behind_key_stops n es l new s g never)
+unexpected_met text rest (after_key {n} {es} d l new s g never) = met d _ (behind_key_stops n es l new s g never)
 unexpected_met text rest (behind_pair {n} {es} d l new p g more end) = met d _ (behind_pair_stops n es l new p g more end)
 unexpected_met text rest (behind_segment {k} d s l g more end) = met d _ (behind_segment_stops k s l g more end)
 unexpected_met text rest (no_dot d s g never) = met d _ (no_dot_stops s g never)
 
 -- ---- one fault
 
--- why a text is refused: bytes that are no text, or what the reader stops for
+-- why a text is rejected: its bytes are no text, or the reader stops with a fault
 data Why (bytes : List ℕ) (fault : TextFault) : Type 0 where
   for_bytes : {at : ℕ} → fault ≡ faults.BadUtf8 at → Why bytes fault
   for_text : {cause : Cause} {left : ℕ} → text_at (chars bytes) ≡ Err (cause, left) → fault ≡ fault_of (stops.At cause left) (chars bytes) → Why bytes fault

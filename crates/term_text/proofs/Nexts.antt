@@ -1,4 +1,4 @@
--- The next term of what is left of a text.
+-- The next term of the remaining text.
 use Rattle.std.proofs.Common.{◌≡◌, ◌≢◌, ◌⊎◌, ◌<◌, inl, inr, false, ℕ, List, [], ◌∷◌, ◌++◌, length, Option, Some, None, Ok, Err, refl, sym, ◌∙◌, arith, append_assoc}
 use Rattle.std.specs.Prelude.{IfOk}
 use Rattle.std.proofs.lemmas.List.{append-nil}
@@ -28,7 +28,7 @@ use Rattle.term_text.proofs.Publics.{no_bad_utf8, not_both}
 use Rattle.term_text.proofs.Readers.{failed_before}
 use Rattle.term_text.proofs.Stops.{SentencesStop, text_stops, behind_dot_stops, at_sentence}
 
--- ---- what is read stands there
+-- ---- what is read is what the text spells next
 
 holds_from : (text g : List ℕ) → Behind text g → IfOk (next_from g) (Next text)
 holds_from text [] b = no_more text [] refl b
@@ -43,7 +43,7 @@ next_holds text = holds_from text (after_gap false text) (gap_holds text)
 pub next_is_there : (text : List ℕ) (there : Option (Datum × List ℕ)) → next_at text ≡ Ok there → Next text there
 next_is_there text there e = holds_at (Next text) (next_at text) there (next_holds text) e
 
--- ---- what stands there is read
+-- ---- what the text spells next is read
 
 some_from : (g : List ℕ) (d : Datum) (rest : List ℕ) → IsFirst g → sentence_at g ≡ Ok (d, rest) → next_from g ≡ Ok (Some (d, rest))
 some_from [] d rest f e = absurd f
@@ -106,11 +106,11 @@ next_refusal bytes rest ds (stops.At cause left) utf8 front f =
 pub sentence_shorter : {text rest : List ℕ} {d : Datum} → Sentence text d rest → length rest < length text
 sentence_shorter s = let a = gap_shorter s.gap in let b = spelled_shorter s.term in let c = gap_shorter s.dot in omega arith
 
--- a text that a term begins
+-- the terms of a text that begins with a term
 pub sentence_first : {text rest : List ℕ} {d : Datum} {ds : List Datum} → Sentence text d rest → Sentences rest ds → Sentences text (d ∷ ds)
 sentence_first s more = sentence s.gap s.term s.dot s.ended more
 
--- what stands in front, and what follows
+-- terms at the beginning, and those that follow, are the terms of the text
 pub front_whole : {text rest : List ℕ} {ds es : List Datum} → Front text ds rest → Sentences rest es → Sentences text (ds ++ es)
 front_whole at_first more = more
 front_whole {es = es} (behind {ds} {d} front s) more = rw (append_assoc ds (d ∷ []) es) (front_whole front (sentence_first s more))

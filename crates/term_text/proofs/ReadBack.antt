@@ -1,4 +1,4 @@
--- A canonical text with its dot and line feed is read back, and what follows is read as if it stood alone.
+-- A canonical text with its dot and line feed is read back, and what follows is read as it would be alone.
 use Rattle.std.proofs.Common.{◌≡◌, ℕ, suc, ◌^◌, ◌<◌, inl, inr, Bool, true, false, cond, List, [], ◌∷◌, ◌++◌, Ok, ℤ, pos, negsuc, refl, sym, ap, ◌∙◌, arith, append_assoc, decimal}
 use Rattle.std.specs.Prelude.{◌==◌, ◌&&◌, FitsSigned}
 use Rattle.std.specs.Int.{w64}

@@ -16,7 +16,7 @@ use Rattle.term_text.specs.declared.stop.Stop.TheVariants as stops
 use Rattle.term_text.specs.declared.token.Opening.{Opening}
 use Rattle.term_text.specs.declared.token.Opening.TheVariants as opens
 use Rattle.term_text.specs.TokenReading.{Fault, Read, ◌>>=◌, Fails, all_steps, after_gap, expect_both}
-use Rattle.term_text.specs.Reading.{TermReader, enter, term_at, tail_at, form_at, tail_form, behind_comma, separated, element_at, pair_at, sentence_at, sentence_step, next_from, next_at, text_at, has_key}
+use Rattle.term_text.specs.Reading.{TermReader, enter, term_at, tail_at, form_at, tail_form, after_comma, separated, element_at, pair_at, sentence_at, sentence_step, next_from, next_at, text_at, has_key}
 use Rattle.term_text.proofs.Steps.{holds_at}
 use Rattle.term_text.proofs.Words.{Opens}
 use Rattle.term_text.proofs.Sound.{enter_holds}
@@ -48,7 +48,7 @@ unfolding tail_at
 tail_is zero front text rest o e = absurd (let l = entered zero 1 text rest o e in omega arith)
 tail_is (suc n) front text rest o e = let less : suc n - 1 ≡ n = omega arith in rw (e, less) refl
 
--- a tail that is no list
+-- a list whose tail is no list
 abbrev ended : List Datum → Read Datum → Read Datum
 ended front r = r >>= λ x. Ok (cells front x.0, x.1)
 
@@ -68,7 +68,7 @@ pub element_fails : (e : Stop) (read : TermReader) (limit room : ℕ) (ds : List
 unfolding element_at
 element_fails e read limit room ds text h f = bind_fails e (element_at read limit ds text) _ (bind_fails e (read (limit - length ds) text) _ (rw h at f))
 
-pub element_is : (read : TermReader) (limit room : ℕ) (ds : List Datum) (text : List ℕ) (d : Datum) (rest : List ℕ) (goes : Bool) (t : List ℕ) → room ≡ limit - length ds → read room text ≡ Ok (d, rest) → (goes, t) ≡ behind_comma rest → separated (element_at read limit) ds text ≡ Ok (goes, ds ++ d ∷ [], t)
+pub element_is : (read : TermReader) (limit room : ℕ) (ds : List Datum) (text : List ℕ) (d : Datum) (rest : List ℕ) (goes : Bool) (t : List ℕ) → room ≡ limit - length ds → read room text ≡ Ok (d, rest) → (goes, t) ≡ after_comma rest → separated (element_at read limit) ds text ≡ Ok (goes, ds ++ d ∷ [], t)
 unfolding element_at
 element_is read limit room ds text d rest goes t h e b = rw (← h, e, ← b) refl
 
@@ -77,7 +77,7 @@ element_is read limit room ds text d rest goes t h e b = rw (← h, e, ← b) re
 pub item_fails : {S : Type 0} (e : Stop) (item : S → List ℕ → Read S) (s : S) (text : List ℕ) → Fails e (item s text) → Fails e (separated item s text)
 item_fails e item s text f = bind_fails e (item s text) _ f
 
-pub item_is : {S : Type 0} (item : S → List ℕ → Read S) (s u : S) (text rest : List ℕ) (goes : Bool) (t : List ℕ) → item s text ≡ Ok (u, rest) → (goes, t) ≡ behind_comma rest → separated item s text ≡ Ok (goes, u, t)
+pub item_is : {S : Type 0} (item : S → List ℕ → Read S) (s u : S) (text rest : List ℕ) (goes : Bool) (t : List ℕ) → item s text ≡ Ok (u, rest) → (goes, t) ≡ after_comma rest → separated item s text ≡ Ok (goes, u, t)
 item_is item s u text rest goes t e b = rw (e, ← b) refl
 
 -- ---- a key among those of a map
@@ -129,7 +129,7 @@ unfolding sentence_step
 no_sentence ds [] h = refl
 no_sentence ds (c ∷ cs) h = absurd (omega arith)
 
--- the text from its steps
+-- a whole text fails as its steps do
 pub text_fails : (e : Stop) (text : List ℕ) → Fails e (all_steps sentence_step [] (after_gap false text)) → Fails e (text_at text)
 unfolding text_at
 text_fails e text h = bind_fails e (all_steps sentence_step [] (after_gap false text)) _ h
@@ -164,7 +164,7 @@ pub next_none : (text g : List ℕ) → g ≡ after_gap false text → true ≡ 
 unfolding next_at
 next_none text g is none = rw (← is) (next_from_none g (sym none))
 
--- what it says of a step
+-- the condition on a step is what it says of the failed step
 pub failed_before : (e : Stop) (r : Read Datum) → (let some : Datum × List ℕ → Result (Option (Datum × List ℕ)) Fault = λ x. Ok (Some x) in Fails e (r >>= some)) → Fails e r
 failed_before stops.Memory r f = tt
 failed_before (stops.At cause left) (Ok x) f = absurd cc

@@ -1,43 +1,26 @@
--- Words of a few letters, and the first elements of a row.
+-- Short words and integers, and the first elements of a row.
 use Rattle.std.proofs.Common.{◌≡◌, ℕ, ◌-◌, ◌^◌, ◌≤◌, ◌<◌, inl, inr, Bool, true, false, List, [], ◌∷◌, ◌++◌, length, min, Option, Some, None, Result, Ok, ℤ, pos, refl, sym, subst, ◌∙◌, arith}
 use Rattle.std.specs.Prelude.{◌==◌, if◌then◌else◌}
 use Rattle.std.specs.Char.{is_ascii_digit, is_ascii_lowercase}
-use Rattle.std.specs.List.{AllByRecursion}
 use Rattle.std.proofs.lemmas.Bool.{cases_Bool, cases_eq, eqb-true, eq-eqb, leb-true, ne_eqb}
 use Rattle.term_core.specs.Datum.{Datum, items_of, cells}
-use Rattle.term_core.specs.Datum.Datum.{atom, tuple, nil}
+use Rattle.term_core.specs.Datum.Datum.{tuple, nil}
 use Rattle.term_core.specs.declared.TheConstants.{MAX_TUPLE, MAX_LIST}
 use Rattle.term_text.specs.declared.stop.Stop.{Stop}
-use Rattle.term_text.specs.Character.{is_word, open_brace, close_brace, close_bracket}
-use Rattle.term_text.specs.Tokens.{EndsRun}
+use Rattle.term_text.specs.Character.{open_brace, close_brace, close_bracket}
 use Rattle.term_text.specs.declared.token.Opening.{Opening}
 use Rattle.term_text.specs.declared.token.Opening.TheVariants as opens
-use Rattle.term_text.specs.TokenReading.{Fault, Read, Fails, after_gap, expect, behind, begins, opening, fits, signed, number_run, integer_at}
-use Rattle.term_text.specs.Reading.{TermReader, TailReader, AreElements, separated, behind_comma, element_at, elements_at, elements_from, enter, form_at, term_at, tail_at, tuple_at, list_at, list_end, word_term_at, integer_term_at}
+use Rattle.term_text.specs.TokenReading.{Fault, Read, Fails, all_steps, after_gap, expect, behind, begins, opening, fits, signed, number_run, integer_at}
+use Rattle.term_text.specs.Reading.{TermReader, TailReader, AreElements, separated, after_comma, element_at, elements_at, elements_from, pair_at, pairs_from, enter, form_at, term_at, tail_at, tuple_at, list_at, list_end, word_term_at, integer_term_at}
 use Rattle.term_text.proofs.Steps.{ends, goes_on, is_done}
-use Rattle.term_text.proofs.Words.{word_again, unsigned_sign, opening_word, opening_integer}
-use Rattle.term_text.proofs.Sound.{term_holds, element_shrinks}
-use Rattle.term_text.proofs.Readers.{bind_fails, element_fails, element_is, term_is}
+use Rattle.term_text.proofs.Words.{unsigned_sign, opening_word, opening_integer}
+use Rattle.term_text.proofs.Sound.{term_holds, element_shrinks, pair_shrinks}
+use Rattle.term_text.proofs.Readers.{bind_fails, element_fails, element_is, item_fails, item_is, term_is}
 
 abbrev pub just : Datum → Result Datum Fault
 just d = Ok d
 
--- ---- words of one to three letters
-
-few_letters : (text cs rest : List ℕ) → text ≡ cs ++ rest → AllByRecursion (λ c. is_word c ≡ true) cs → length cs ≤ 3 → EndsRun is_word rest → word_term_at text ≡ Ok (atom cs, rest)
-unfolding word_term_at
-few_letters text cs rest whole each few ended = rw (word_again (record { whole = whole; each = each; ended = ended }) (omega arith)) refl
-
-pub word_of_one : (text rest : List ℕ) (a : ℕ) (t : Datum) → text ≡ a ∷ rest → is_word a ≡ true → EndsRun is_word rest → t ≡ atom (a ∷ []) → word_term_at text ≡ Ok (t, rest)
-word_of_one text rest a t e h ended is = rw is (few_letters text (a ∷ []) rest e (h, tt) (omega arith) ended)
-
-pub word_of_two : (text more rest : List ℕ) (a b : ℕ) (t : Datum) → text ≡ a ∷ more → more ≡ b ∷ rest → is_word a ≡ true → is_word b ≡ true → EndsRun is_word rest → t ≡ atom (a ∷ b ∷ []) → word_term_at text ≡ Ok (t, rest)
-word_of_two text more rest a b t e f h i ended is = rw is (few_letters text (a ∷ b ∷ []) rest (rw f at e) (h, (i, tt)) (omega arith) ended)
-
-pub word_of_three : (text more end rest : List ℕ) (a b c : ℕ) (t : Datum) → text ≡ a ∷ more → more ≡ b ∷ end → end ≡ c ∷ rest → is_word a ≡ true → is_word b ≡ true → is_word c ≡ true → EndsRun is_word rest → t ≡ atom (a ∷ b ∷ c ∷ []) → word_term_at text ≡ Ok (t, rest)
-word_of_three text more end rest a b c t e f k h i j ended is = rw is (few_letters text (a ∷ b ∷ c ∷ []) rest (rw k at (rw f at e)) (h, (i, (j, tt))) (omega arith) ended)
-
--- ---- an integer or a word where a term may stand
+-- ---- an integer or a word where a term is allowed
 
 plain_by : (levels room : ℕ) (text rest : List ℕ) (o : Opening) (d : Datum) → 0 < levels → 0 < room → opening text ≡ Some (o, text) → form_at (term_at (levels - 1)) (tail_at (levels - 1)) (levels - 1) o text ≡ Ok (d, rest) → term_at levels room text ≡ Ok (d, rest)
 unfolding enter
@@ -90,13 +73,23 @@ module _ (n limit : ℕ) (ds : List Datum) (text : List ℕ) (total : Read (List
       ends (separated (element_at (term_at n) limit)) (element_shrinks n (term_at n) (term_holds n) limit) e ds text total
       (element_fails e (term_at n) limit room ds text left f) so_far
 
-  pub element_more : (d : Datum) (rest : List ℕ) (goes : Bool) (t : List ℕ) → term_at n room text ≡ Ok (d, rest) → (goes, t) ≡ behind_comma rest → elements_from (term_at n) limit goes (ds ++ d ∷ []) t ≡ total
+  pub element_more : (d : Datum) (rest : List ℕ) (goes : Bool) (t : List ℕ) → term_at n room text ≡ Ok (d, rest) → (goes, t) ≡ after_comma rest → elements_from (term_at n) limit goes (ds ++ d ∷ []) t ≡ total
   element_more d rest true t e b =
       goes_on (separated (element_at (term_at n) limit)) (element_shrinks n (term_at n) (term_holds n) limit) ds (ds ++ d ∷ []) text t total
       (element_is (term_at n) limit room ds text d rest true t left e b) so_far
   element_more d rest false t e b =
       sym (is_done (separated (element_at (term_at n) limit)) (element_shrinks n (term_at n) (term_holds n) limit) ds (ds ++ d ∷ []) text t total
       (element_is (term_at n) limit room ds text d rest false t left e b) so_far)
+
+-- ---- pairs so far, and whether more follow
+
+module _ (n : ℕ) (es : List (Datum × Datum)) (text : List ℕ) (total : Read (List (Datum × Datum))) (so_far : all_steps (separated (pair_at (term_at n))) es text ≡ total) where
+  pub pair_stops : (e : Stop) → Fails e (pair_at (term_at n) es text) → Fails e total
+  pair_stops e f = ends (separated (pair_at (term_at n))) (pair_shrinks n (term_at n) (term_holds n)) e es text total (item_fails e (pair_at (term_at n)) es text f) so_far
+
+  pub pair_more : (fs : List (Datum × Datum)) (rest : List ℕ) (goes : Bool) (t : List ℕ) → pair_at (term_at n) es text ≡ Ok (fs, rest) → (goes, t) ≡ after_comma rest → pairs_from (term_at n) goes fs t ≡ total
+  pair_more fs rest true t e b = goes_on (separated (pair_at (term_at n))) (pair_shrinks n (term_at n) (term_holds n)) es fs text t total (item_is (pair_at (term_at n)) es fs text rest true t e b) so_far
+  pair_more fs rest false t e b = sym (is_done (separated (pair_at (term_at n))) (pair_shrinks n (term_at n) (term_holds n)) es fs text t total (item_is (pair_at (term_at n)) es fs text rest false t e b) so_far)
 
 -- ---- tuples, by their elements and their end
 

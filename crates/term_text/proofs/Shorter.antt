@@ -1,4 +1,4 @@
--- What follows a token or a term is shorter than the text that it stands in.
+-- What follows a token or a term is shorter than the text that begins with it.
 use Rattle.std.proofs.Common.{◌≡◌, ℕ, ◌<◌, List, [], ◌∷◌, length, ℤ, sym, ap, subst, true, false, arith}
 use Rattle.std.proofs.lemmas.List.{length-append}
 use Rattle.std.specs.Char.{is_ascii_lowercase}

@@ -25,7 +25,7 @@ use Rattle.term_core.specs.Order.{datum_cmp}
 use Rattle.term_text.specs.Text.Pair.{arrow}
 use Rattle.term_text.specs.Text.Pairs.{last_pair, more_pairs}
 use Rattle.term_text.proofs.Keys.{AreRising, put_permutes, put_rises}
-use Rattle.term_text.specs.TokenReading.{all_steps, Fault, Read, is_allowed, integer_at, word_at, behind_both, expect_both, ◌>>=◌, after_gap, behind, expect, opening, quoted_at}
+use Rattle.term_text.specs.TokenReading.{all_steps, Fault, Read, is_allowed, integer_at, word_at, after_both, expect_both, ◌>>=◌, after_gap, behind, expect, opening, quoted_at}
 use Rattle.term_text.specs.Reading.{has_key, pair_at, pairs_at, byte_of, byte_at, byte_marks, segment_as, segment_at, segments_at, bytes_at, binary_at, map_at, TermReader, TailReader, enter, enter_as, atom_marks, string_marks, string_at, integer_term_at, word_term_at, quoted_atom_at, element_at, elements_at, separated, items_at, tuple_at, list_at, list_end, list_from, end_at, form_at, tail_form, term_at, tail_at}
 use Rattle.term_text.proofs.Steps.{bind_holds, if_holds, weaker, Shrinks}
 use Rattle.term_text.proofs.Tokens.{Reads, quoted_holds}
@@ -49,7 +49,7 @@ pub expect_holds : (a : ℕ) (text : List ℕ) → IfOk (expect a text) (λ rest
 expect_holds a [] = tt
 expect_holds a (c ∷ cs) = if_holds (λ rest. c ∷ cs ≡ a ∷ rest) (c == a) _ _ (λ e. ap (λ (x : ℕ). x ∷ cs) (eqb-true c a e)) (λ _. tt)
 
--- a reader of terms gives what is spelled
+-- a reader of terms gives what the text spells
 abbrev pub IsReader : ℕ → TermReader → Type 0
 IsReader n read = (room : ℕ) (text : List ℕ) → IfOk (read room text) (λ x. Spelled n text x.0 x.1 × (0 < room))
 
@@ -77,7 +77,7 @@ cell_count-cells (d ∷ ds) tail = omega (arith, cell_count-cells ds tail)
 
 -- ---- elements
 
--- one more element
+-- one more element was read
 pub record ElementRead (n limit : ℕ) (front : List Datum) (text : List ℕ) (ds : List Datum) (rest : List ℕ) : Type 0 where
   pub element : Datum
   pub made : ds ≡ front ++ element ∷ []
@@ -259,7 +259,7 @@ quoted_atom_holds n text =
 
 -- ---- binaries
 
--- one more segment
+-- one more segment was read
 pub record SegmentRead (bytes text cs rest : List ℕ) : Type 0 where
   pub segment : List ℕ
   pub made : cs ≡ bytes ++ segment
@@ -330,7 +330,7 @@ if_some : {X : Type 0} (P : X → Type 0) (b : Bool) (x : X) → (b ≡ true →
 if_some P true x h = h refl
 if_some P false x h = tt
 
-pub behind_both_holds : (a b : ℕ) (text : List ℕ) → IfSome (behind_both a b text) (λ rest. text ≡ a ∷ b ∷ rest)
+pub behind_both_holds : (a b : ℕ) (text : List ℕ) → IfSome (after_both a b text) (λ rest. text ≡ a ∷ b ∷ rest)
 behind_both_holds a b [] = tt
 behind_both_holds a b (x ∷ []) = tt
 behind_both_holds a b (x ∷ y ∷ ys) = if_some (λ (rest : List ℕ). x ∷ y ∷ ys ≡ a ∷ b ∷ rest) (x == a && y == b) ys (λ e. two_are x y a b ys e)
@@ -354,13 +354,13 @@ bytes_hold n text g None gap h =
 pub binary_holds : (n : ℕ) (text : List ℕ) → IfOk (binary_at text) (λ x. Alone n (less ∷ less ∷ text) x.0 x.1)
 unfolding binary_at
 binary_holds n text =
-    bind_holds (λ (x : List ℕ × List ℕ). Spelled (suc n) (less ∷ less ∷ text) (binary x.0) x.1) (λ (x : Datum × List ℕ). Alone n (less ∷ less ∷ text) x.0 x.1) (bytes_at (behind_both greater greater (after_gap false text)) (after_gap false text)) _
-    (bytes_hold n text (after_gap false text) (behind_both greater greater (after_gap false text)) (gap_some text) (behind_both_holds greater greater (after_gap false text)))
+    bind_holds (λ (x : List ℕ × List ℕ). Spelled (suc n) (less ∷ less ∷ text) (binary x.0) x.1) (λ (x : Datum × List ℕ). Alone n (less ∷ less ∷ text) x.0 x.1) (bytes_at (after_both greater greater (after_gap false text)) (after_gap false text)) _
+    (bytes_hold n text (after_gap false text) (after_both greater greater (after_gap false text)) (gap_some text) (behind_both_holds greater greater (after_gap false text)))
     (λ x h. (h, refl))
 
 -- ---- maps
 
--- one more pair
+-- one more pair was read
 pub record PairRead (n : ℕ) (front : List (Datum × Datum)) (text : List ℕ) (es : List (Datum × Datum)) (rest : List ℕ) : Type 0 where
   pub key : Datum
   pub value : Datum

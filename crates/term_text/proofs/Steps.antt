@@ -5,7 +5,7 @@ use Rattle.term_text.specs.declared.stop.Stop.{Stop}
 use Rattle.term_text.specs.declared.stop.Stop.TheVariants as stops
 use Rattle.term_text.specs.TokenReading.{Fault, Read, ◌>>=◌, Fails, Step, steps, all_steps}
 
--- a step that did not fail
+-- a step that did not fail, followed by another
 pub bind_holds : {A B : Type 0} (P : A → Type 0) (Q : B → Type 0) (r : Result A Fault) (f : A → Result B Fault) → IfOk r P → ((x : A) → P x → IfOk (f x) Q) → IfOk (r >>= f) Q
 bind_holds P Q (Ok x) f h k = k x h
 bind_holds P Q (Err e) f h k = tt
@@ -14,7 +14,7 @@ pub if_holds : {A : Type 0} (P : A → Type 0) (b : Bool) (r t : Result A Fault)
 if_holds P true r t h k = h refl
 if_holds P false r t h k = k refl
 
--- what holds of each value that is read, with the equation that says so
+-- what holds for each value that is read, given the equation that says so
 pub holds_from : {A : Type 0} (P : A → Type 0) (r : Result A Fault) → ((x : A) → r ≡ Ok x → P x) → IfOk r P
 holds_from P (Ok x) h = h x refl
 holds_from P (Err e) h = tt
@@ -35,7 +35,7 @@ if_same : {A : Type 0} (b : Bool) (x y z : A) → (b ≡ true → x ≡ y) → c
 if_same true x y z h = h refl
 if_same false x y z h = refl
 
--- each step that is not the last leaves less of the text
+-- each step but the last leaves less of the text
 pub record Shrinks {S : Type 0} (step : Step S) : Type 0 where
   pub shorter : (s : S) (text : List ℕ) (t : Bool × S × List ℕ) → step s text ≡ Ok t → t.0 ≡ true → length t.2 < length text
 
@@ -47,7 +47,7 @@ enough step h (suc m) (suc n) s text l k =
     bind_same (step s text) _ _
     (λ t e. if_same t.0 _ _ _ (λ goes. let lt = h.shorter s text t e goes in enough step h m n t.1 t.2 (omega arith) (omega arith)))
 
--- the first step, and the others
+-- all steps are the first step and the others
 pub all_steps_is : {S : Type 0} (step : Step S) → Shrinks step → (s : S) (text : List ℕ) → all_steps step s text ≡ (step s text >>= λ t. cond t.0 (all_steps step t.1 t.2) (Ok (t.1, t.2)))
 unfolding steps
 all_steps_is step h s text =
@@ -70,7 +70,7 @@ ends step h (stops.At cause left) s text total f so_far =
     let one : all_steps step s text ≡ Err (cause, left) = all_steps_is step h s text ∙ rw f refl in
     sym so_far ∙ one
 
--- What each step hands on holds at the end.
+-- What each step preserves holds at the end.
 module _ {S : Type 0} (step : Step S) (R : S → List ℕ → S → List ℕ → Type 0) where
   abbrev pub Hands : S → List ℕ → Bool × S × List ℕ → Type 0
   Hands s text t = elim t.0 [ true ↦ (u : S) (rest : List ℕ) → R t.1 t.2 u rest → R s text u rest | false ↦ R s text t.1 t.2 ]

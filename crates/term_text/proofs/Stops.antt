@@ -1,4 +1,4 @@
--- What the reader stops for at a place that is due, what is due there first stops it for.
+-- Where a place is due, the reader stops with the fault with which it stops at the first part due there.
 use Rattle.std.proofs.Common.{◌≡◌, ◌≢◌, ◌&&◌, ℕ, zero, suc, ◌+◌, ◌-◌, ◌≤◌, ◌<◌, inl, inr, Bool, true, false, cond, List, [], ◌∷◌, ◌++◌, length, Option, Some, None, Result, Ok, Err, ℤ, pos, negsuc, refl, sym, ap, ◌∙◌, arith, lit<, append_assoc}
 use Rattle.std.specs.Prelude.{IfSome, ◌==◌}
 use Rattle.std.specs.List.{Contains, AllByRecursion}
@@ -24,8 +24,8 @@ use Rattle.term_text.specs.Causes.WholeGap.{up_to, to_the_end}
 use Rattle.term_text.specs.Causes.Row.{in_tuple, in_list}
 use Rattle.term_text.specs.Causes.Quotes.{of_atom, of_string, of_bytes}
 use Rattle.term_text.specs.Causes.IsWide.{wide, wide_positive, wide_negative}
-use Rattle.term_text.specs.TokenReading.{Fault, Read, ◌>>=◌, steps, after_gap, expect, expect_both, behind, behind_both, opening, begins, is_sign, integer_at, word_at, quoted_at, quoted_step, next_quoted, character_at, is_allowed, dot_at, begins_gap}
-use Rattle.term_text.specs.Reading.{separated, comma_in, behind_comma, enter, enter_as, atom_marks, string_marks, byte_marks, string_at, byte_of, byte_at, segment_as, segment_at, binary_at, integer_term_at, word_term_at, quoted_atom_at, element_at, tuple_at, list_at, list_end, has_key, pair_at, map_at, form_at, tail_form, term_at, tail_at, sentence_at, sentence_step, text_at}
+use Rattle.term_text.specs.TokenReading.{Fault, Read, ◌>>=◌, steps, after_gap, expect, expect_both, behind, after_both, opening, begins, is_sign, integer_at, word_at, quoted_at, quoted_step, next_quoted, character_at, is_allowed, dot_at, begins_gap}
+use Rattle.term_text.specs.Reading.{separated, comma_in, after_comma, enter, enter_as, atom_marks, string_marks, byte_marks, string_at, byte_of, byte_at, segment_as, segment_at, binary_at, integer_term_at, word_term_at, quoted_atom_at, element_at, tuple_at, list_at, list_end, has_key, pair_at, map_at, form_at, tail_form, term_at, tail_at, sentence_at, sentence_step, text_at}
 use Rattle.term_text.proofs.Tokens.{gap_again}
 use Rattle.term_text.proofs.Words.{Opens, opening_holds, opening_integer, opening_word, number_again, number_begins, unsigned_sign, word_too_long, each_more, integer_begins, integer_again}
 use Rattle.term_text.proofs.Items.{gap_shorter}
@@ -37,7 +37,7 @@ use Rattle.term_text.proofs.Texts.{last_comment, sentence_again, step_again}
 use Rattle.term_text.proofs.Blames.{opens_none, term_starts, integer_starts, integer_begun, level_of}
 use Rattle.term_text.proofs.BlamesTerms.{has_one, is_new}
 
--- what stops, stops what goes on from it
+-- a fault of the first part is a fault of the whole
 pub stops : {A B : Type 0} (r : Result A Fault) (f : A → Result B Fault) (e : Fault) → r ≡ Err e → (r >>= f) ≡ Err e
 stops r f e h = rw h refl
 
@@ -55,7 +55,7 @@ gap_less : {text rest : List ℕ} → WholeGap text rest → length rest ≤ len
 gap_less (up_to g e) = gap_shorter g
 gap_less (to_the_end g l) = omega arith
 
--- ---- what does not stand there
+-- ---- what the text doesn't begin with
 
 not_behind : (a : ℕ) (text : List ℕ) → ¬ BeginsWith a text → behind a text ≡ None
 not_behind a [] h = refl
@@ -71,7 +71,7 @@ not_both a b x y h = elim (cases_eq x a) [
   | inr n ↦ rw (ne_eqb x a n) refl
 ]
 
-not_behind_both : (a b : ℕ) (text : List ℕ) → ¬ BeginsWithBoth a b text → behind_both a b text ≡ None
+not_behind_both : (a b : ℕ) (text : List ℕ) → ¬ BeginsWithBoth a b text → after_both a b text ≡ None
 not_behind_both a b [] h = refl
 not_behind_both a b (x ∷ []) h = refl
 not_behind_both a b (x ∷ y ∷ ys) h = rw (not_both a b x y h) refl
@@ -85,18 +85,18 @@ no_comma : (text : List ℕ) → ¬ BeginsWith comma text → comma_in text ≡ 
 no_comma [] h = refl
 no_comma (c ∷ cs) h = rw (ne_eqb c comma h) refl
 
--- ---- what stands behind an item
+-- ---- what follows an item
 
-more_behind : {u v w : List ℕ} → Gap u (comma ∷ v) → WholeGap v w → behind_comma u ≡ (true, w)
+more_behind : {u v w : List ℕ} → Gap u (comma ∷ v) → WholeGap v w → after_comma u ≡ (true, w)
 more_behind {u} {v} {w} g b = ap comma_in (gap_again g) ∙ ap (λ (r : List ℕ). (true, r)) (gap_is b)
 
-bar_behind : {u v : List ℕ} → Gap u (bar ∷ v) → behind_comma u ≡ (false, bar ∷ v)
+bar_behind : {u v : List ℕ} → Gap u (bar ∷ v) → after_comma u ≡ (false, bar ∷ v)
 bar_behind g = ap comma_in (gap_again g)
 
-last_behind : {u rest : List ℕ} → WholeGap u rest → ¬ BeginsWith comma rest → behind_comma u ≡ (false, rest)
+last_behind : {u rest : List ℕ} → WholeGap u rest → ¬ BeginsWith comma rest → after_comma u ≡ (false, rest)
 last_behind {u} {rest} g never = ap comma_in (gap_is g) ∙ no_comma rest never
 
--- what is left behind an item and a comma is shorter
+-- what remains after an item and a comma is shorter
 next_less : (t : List ℕ) {u v w : List ℕ} (fuel : ℕ) → length u < length t → Gap u (comma ∷ v) → WholeGap v w → length t < suc fuel → length w < fuel
 next_less t fuel item g b l = let a = gap_shorter g in let c = gap_less b in omega arith
 
@@ -131,12 +131,12 @@ enter_none levels room text never = rw (no_opening text never) refl
 
 -- ---- terms
 
--- what stands behind the tail of a list
+-- what follows the tail of a list
 abbrev tail_end : Datum × List ℕ → Read Datum
 tail_end x = expect close_bracket (after_gap false x.1) >>= λ rest. Ok (x.0, rest)
 
--- A term that may be nested so many levels stops for this, or, where it is the tail behind so many elements of a list,
--- it or what stands behind it.
+-- A term that may be nested this many levels deep stops with this fault. If it is the tail after this many elements of
+-- a list, the fault may also be in what follows it.
 abbrev pub TermStops : ℕ → ℕ → List ℕ → Fault → Type 0
 TermStops n zero text f = (room : ℕ) → 0 < room → term_at n room text ≡ Err f
 TermStops n (suc k) text f = (front : List Datum) → length front ≡ suc k → (tail_at n front text >>= tail_end) ≡ Err f
@@ -153,7 +153,7 @@ none_stops zero (suc k) text never = λ front len. rw (enter_none 0 1 text never
 none_stops (suc n) zero text never = λ room some. rw (enter_none (suc n) room text never) refl
 none_stops (suc n) (suc k) text never = λ front len. rw (enter_none (suc n) 1 text never) refl
 
--- alone, where so many more terms may stand
+-- where no term begins, reading one stops with a syntax fault, whatever room is left
 pub none_alone : (n room : ℕ) (text : List ℕ) → ¬ BeginsTerm text → term_at n room text ≡ Err (causes.Syntax, length text)
 unfolding term_at
 none_alone zero room text never = rw (enter_none 0 room text never) refl
@@ -203,18 +203,18 @@ binary_stops n k t f e = form_stops n k (less ∷ less ∷ t) t opens.Binary f r
 
 -- ---- elements
 
--- what stands behind the elements
+-- what follows the elements of a row
 abbrev row_end : Row → ℕ → List Datum × List ℕ → Read Datum
 row_end in_tuple n x = expect close_brace x.1 >>= λ rest. Ok (tuple (items_of x.0), rest)
 row_end in_list n x = list_end (tail_at n) x.0 x.1
 
--- from an element behind so many on, the row stops for this
+-- from an element on that follows this many others, the row stops with this fault
 abbrev pub RowStops : Row → ℕ → ℕ → List ℕ → Fault → Type 0
 RowStops r n k text f =
     (fuel : ℕ) (ds : List Datum) → length ds ≡ k → length text < fuel
     → (steps (separated (element_at (term_at n) (most_elements r))) fuel ds text >>= row_end r n) ≡ Err f
 
-row_goes : (r : Row) (n fuel : ℕ) (ds : List Datum) {t u : List ℕ} {d : Datum} (b : Bool) (w : List ℕ) → length ds < most_elements r → Spelled n t d u → behind_comma u ≡ (b, w) → steps (separated (element_at (term_at n) (most_elements r))) (suc fuel) ds t ≡ cond b (steps (separated (element_at (term_at n) (most_elements r))) fuel (ds ++ d ∷ []) w) (Ok (ds ++ d ∷ [], w))
+row_goes : (r : Row) (n fuel : ℕ) (ds : List Datum) {t u : List ℕ} {d : Datum} (b : Bool) (w : List ℕ) → length ds < most_elements r → Spelled n t d u → after_comma u ≡ (b, w) → steps (separated (element_at (term_at n) (most_elements r))) (suc fuel) ds t ≡ cond b (steps (separated (element_at (term_at n) (most_elements r))) fuel (ds ++ d ∷ []) w) (Ok (ds ++ d ∷ [], w))
 unfolding steps
 row_goes r n fuel ds {t} {u} {d} b w room s e =
     let some : 0 < most_elements r - length ds = omega arith in
@@ -254,20 +254,20 @@ behind_element_stops r n k {t} {u} {rest} {d} room s g never zero ds len l = abs
 behind_element_stops r n k {t} {u} {rest} {d} room s g never (suc fuel) ds len l =
     rw (row_goes r n fuel ds false rest (omega arith) s (last_behind g (λ h. never (comma_follows r rest h)))) (row_ends r n (ds ++ d ∷ []) rest never)
 
--- what the reader of an element stops for, where no more may stand there
+-- the fault of the reader of an element is a fault of the row
 pub at_element : (r : Row) (n k : ℕ) (t : List ℕ) (f : Fault) → ((room : ℕ) → room ≡ most_elements r - k → term_at n room t ≡ Err f) → RowStops r n k t f
 unfolding steps element_at
 at_element r n k t f h zero ds len l = absurd (omega arith)
 at_element r n k t f h (suc fuel) ds len l = rw (h (most_elements r - length ds) (omega arith)) refl
 
--- behind the elements of a tuple
+-- what follows the elements of a tuple
 abbrev items_end : List Datum × List ℕ → Read (List Datum)
 items_end x = expect close_brace x.1 >>= λ rest. Ok (x.0, rest)
 
 abbrev as_tuple : List Datum × List ℕ → Read Datum
 as_tuple x = Ok (tuple (items_of x.0), x.1)
 
--- what stops a row stops its tuple
+-- the fault of a row is the fault of its tuple
 closed_stops : (ds : List Datum) (r : Result (List ℕ) Fault) (f : Fault) → (let made : List ℕ → Read Datum = λ rest. as_tuple (ds, rest) in (r >>= made) ≡ Err f) → (let read : List ℕ → Read (List Datum) = λ rest. Ok (ds, rest) in (r >>= read) ≡ Err f)
 closed_stops ds (Err e) f h = let same : e ≡ f = cc in rw same refl
 closed_stops ds (Ok rest) f h = absurd cc
@@ -288,11 +288,11 @@ in_brackets_stops n k {t} {u} f g never h = list_stops n k t f (λ front len. rw
 
 -- ---- pairs
 
--- what stands behind the pairs
+-- what follows the pairs
 abbrev pairs_end : List (Datum × Datum) × List ℕ → Read (List (Datum × Datum))
 pairs_end x = expect close_brace x.1 >>= λ rest. Ok (x.0, rest)
 
--- from a pair behind these on, the map stops for this
+-- from a pair on that follows these, the map stops with this fault
 abbrev pub PairsStop : ℕ → List (Datum × Datum) → List ℕ → Fault → Type 0
 PairsStop n seen text f =
     (fuel : ℕ) (es : List (Datum × Datum)) → IsPermutation es seen → length text < fuel
@@ -317,7 +317,7 @@ pub in_map_stops : (n k : ℕ) {t u : List ℕ} (f : Fault) → WholeGap t u →
 unfolding map_at
 in_map_stops n k {t} {u} f g never h = map_stops n k t f (rw (gap_is g, not_behind close_brace u never, h (suc (length u)) [] (IsPermutation-refl []) (omega arith)) refl)
 
--- what the reader of a key stops for
+-- the fault of the reader of a key is a fault of the map
 pub at_pair : (n : ℕ) (seen : List (Datum × Datum)) (t : List ℕ) (f : Fault) → ((room : ℕ) → room ≡ map_limit - length seen → term_at n room t ≡ Err f) → PairsStop n seen t f
 unfolding steps pair_at
 at_pair n seen t f h zero es p l = absurd (omega arith)
@@ -344,7 +344,7 @@ behind_key_stops n seen {t} {u} {rest} {k} room new s g never zero es p l = absu
 behind_key_stops n seen {t} {u} {rest} {k} room new s g never (suc fuel) es p l =
     rw (spelled_again_term s (map_limit - length es) (room_for es seen p room), fresh_in k es seen p new, gap_is g, not_both_expected equals greater rest never) refl
 
-pair_goes : (n fuel : ℕ) (es seen : List (Datum × Datum)) {t u : List ℕ} {key value : Datum} (b : Bool) (w : List ℕ) → IsPermutation es seen → length seen < map_limit → IsNew key seen → Pair n t key value u → behind_comma u ≡ (b, w) → steps (separated (pair_at (term_at n))) (suc fuel) es t ≡ cond b (steps (separated (pair_at (term_at n))) fuel (insert_entry datum_cmp es key value) w) (Ok (insert_entry datum_cmp es key value, w))
+pair_goes : (n fuel : ℕ) (es seen : List (Datum × Datum)) {t u : List ℕ} {key value : Datum} (b : Bool) (w : List ℕ) → IsPermutation es seen → length seen < map_limit → IsNew key seen → Pair n t key value u → after_comma u ≡ (b, w) → steps (separated (pair_at (term_at n))) (suc fuel) es t ≡ cond b (steps (separated (pair_at (term_at n))) fuel (insert_entry datum_cmp es key value) w) (Ok (insert_entry datum_cmp es key value, w))
 unfolding steps
 pair_goes n fuel es seen {t} {u} {key} {value} b w p room new s e =
     rw (pair_again s es (fresh_in key es seen p new) (room_for es seen p room), e) refl
@@ -364,11 +364,11 @@ behind_pair_stops n seen {t} {u} {rest} {key} {value} room new s g more end (suc
 
 -- ---- segments
 
--- what stands behind the segments
+-- what follows the segments
 abbrev segments_end : List ℕ × List ℕ → Read (List ℕ)
 segments_end x = expect_both greater greater x.1 >>= λ rest. Ok (x.0, rest)
 
--- from a segment behind so many bytes on, the binary stops for this
+-- from a segment on that follows this many bytes, the binary stops with this fault
 abbrev pub SegmentsStop : ℕ → List ℕ → Fault → Type 0
 SegmentsStop k text f =
     (fuel : ℕ) (bytes : List ℕ) → length bytes ≡ k → length text < fuel
@@ -378,7 +378,7 @@ pub in_binary_stops : (n k : ℕ) {t u : List ℕ} (f : Fault) → WholeGap t u 
 unfolding binary_at
 in_binary_stops n k {t} {u} f g never h = binary_stops n k t f (rw (gap_is g, not_behind_both greater greater u never, h (suc (length u)) [] refl (omega arith)) refl)
 
-segment_goes : (fuel : ℕ) (bytes : List ℕ) {t u bs : List ℕ} (b : Bool) (w : List ℕ) → length bytes + length bs ≤ binary_limit → Segment t bs u → behind_comma u ≡ (b, w) → steps (separated segment_at) (suc fuel) bytes t ≡ cond b (steps (separated segment_at) fuel (bytes ++ bs) w) (Ok (bytes ++ bs, w))
+segment_goes : (fuel : ℕ) (bytes : List ℕ) {t u bs : List ℕ} (b : Bool) (w : List ℕ) → length bytes + length bs ≤ binary_limit → Segment t bs u → after_comma u ≡ (b, w) → steps (separated segment_at) (suc fuel) bytes t ≡ cond b (steps (separated segment_at) fuel (bytes ++ bs) w) (Ok (bytes ++ bs, w))
 unfolding steps
 segment_goes fuel bytes {t} {u} {bs} b w room s e = rw (segment_again s bytes room, e) refl
 
@@ -393,7 +393,7 @@ behind_segment_stops k {t} {u} {rest} {bs} s room g more end zero bytes len l = 
 behind_segment_stops k {t} {u} {rest} {bs} s room g more end (suc fuel) bytes len l =
     rw (segment_goes fuel bytes false rest (omega arith) s (last_behind g more), not_both_expected greater greater rest end) refl
 
--- what the reader of a segment stops for
+-- the fault of the reader of a segment is a fault of the binary
 pub at_segment : (k : ℕ) (t : List ℕ) (f : Fault) → ((bytes : List ℕ) → length bytes ≡ k → segment_at bytes t ≡ Err f) → SegmentsStop k t f
 unfolding steps
 at_segment k t f h zero bytes len l = absurd (omega arith)
@@ -452,7 +452,7 @@ wide_opens t (wide n l) = digits_open t (number_begins n)
 wide_opens t (wide_positive {text} n l) = sign_opens plus text refl refl (number_begins n)
 wide_opens t (wide_negative {text} n l) = sign_opens minus text refl refl (number_begins n)
 
--- where a level is left
+-- an integer that is too wide stops a term if a level is left
 pub wide_term_stops : (n k : ℕ) (t : List ℕ) → 0 < n → IsWide t → TermStops n k t (causes.IntegerRange, length t)
 wide_term_stops zero k t some w = absurd (omega arith)
 wide_term_stops (suc n) k t some w = integer_stops n k t (causes.IntegerRange, length t) (wide_opens t w) (wide_stops t w)
@@ -474,7 +474,7 @@ wide_byte t w = rw (wide_stops t w) refl
 
 -- ---- quotes
 
--- marks that are those of quotes which continue so many characters
+-- marks are those of quotes that continue this number of characters
 pub record AreMarks (q : Quotes) (before : ℕ) (m : Marks) : Type 0 where
   pub mark : m.mark ≡ mark_of q
   pub room : HasLevel q → m.room ≡ most_characters q - before
@@ -523,7 +523,7 @@ string_marked (suc n) before =
       bytes = λ never. absurd cc;
     }
 
--- from a character behind so many on, the quotes stop for this
+-- from a character on that follows this many others, the quotes stop with this fault
 abbrev pub QuotesStop : Quotes → ℕ → List ℕ → Fault → Type 0
 QuotesStop q k text f =
     (m : Marks) (before fuel : ℕ) (cs : List ℕ) → AreMarks q before m → before + length cs ≡ k → length cs ≤ m.room
@@ -537,7 +537,7 @@ mark_no_escape of_atom e = absurd (omega (arith, e))
 mark_no_escape (of_string levels) e = absurd (omega (arith, e))
 mark_no_escape of_bytes e = absurd (omega (arith, e))
 
--- there is room behind so many
+-- there is room for one more after fewer characters than the limit
 fewer : (q : Quotes) (before k : ℕ) (m : Marks) (cs : List ℕ) → AreMarks q before m → HasLevel q → before + length cs ≡ k → k < most_characters q → length cs < m.room
 fewer q before k m cs a level len room = let r = a.room level in omega arith
 
@@ -564,7 +564,7 @@ behind_escape_stops q k e c t f x room s h m before (suc fuel) cs a len few l =
     rw (other, full, x)
     (h m before fuel (cs ++ c ∷ []) a (omega (arith, length-append cs (c ∷ []))) (one_further cs c m.room less) (omega arith))
 
--- what the reader of the next character stops for
+-- the fault of the reader of the next character is a fault of the quotes
 at_character : (q : Quotes) (k : ℕ) (t : List ℕ) (f : Fault) → ((m : Marks) (before : ℕ) (cs : List ℕ) → AreMarks q before m → before + length cs ≡ k → length cs ≤ m.room → next_quoted m (length cs) t ≡ Err f) → QuotesStop q k t f
 unfolding steps quoted_step
 at_character q k t f h m before zero cs a len few l = absurd (omega arith)
@@ -622,7 +622,7 @@ in_segment_stops k t f h = in_bytes_stops k t f (quoted_stops of_bytes (byte_mar
 
 -- ---- bare words
 
--- from a letter behind so many on, the word stops for this
+-- from a letter on that follows this many others, the word stops with this fault
 abbrev pub WordStops : ℕ → List ℕ → Fault → Type 0
 WordStops k text f = (front : List ℕ) → length front ≡ k → AllByRecursion (λ c. is_word c ≡ true) front → word_at (front ++ text) ≡ Err f
 
@@ -639,7 +639,7 @@ one_letter_stops k c t full w front len all =
 
 -- ---- sentences
 
--- from a sentence on, the text stops for this
+-- from a sentence on, the text stops with this fault
 abbrev pub SentencesStop : List ℕ → Fault → Type 0
 SentencesStop text f = (fuel : ℕ) (ds : List Datum) → length text < fuel → steps sentence_step fuel ds text ≡ Err f
 
@@ -654,7 +654,7 @@ behind_dot_stops {t} {u} {v} {w} {d} f s g b x h (suc fuel) ds l =
     let shorter : length w < fuel = let a = spelled_shorter s in let c = gap_shorter g in let e = gap_less x in omega arith in
     rw (step_again ds t v d (spelled_first s) (sentence_again t v d s g b), gap_is x) (h fuel (ds ++ d ∷ []) shorter)
 
--- what the reader of a sentence stops for
+-- the fault of the reader of a sentence is a fault of the text
 pub at_sentence : (c : ℕ) (t : List ℕ) (f : Fault) → sentence_at (c ∷ t) ≡ Err f → SentencesStop (c ∷ t) f
 unfolding steps sentence_step
 at_sentence c t f h zero ds l = absurd (omega arith)
@@ -687,7 +687,7 @@ no_dot_in (c ∷ cs) f first e = at_sentence c cs f e
 pub no_dot_stops : {t u rest : List ℕ} {d : Datum} → Spelled depth_limit t d u → WholeGap u rest → ¬ BeginsDot rest → SentencesStop t (causes.Syntax, length rest)
 no_dot_stops {t} {u} {rest} {d} s g never = no_dot_in t (causes.Syntax, length rest) (spelled_first s) (no_dot_at s g never)
 
--- ---- behind a tail
+-- ---- after a tail
 
 tail_again : (n k : ℕ) (front : List Datum) {t u : List ℕ} {d : Datum} → length front ≡ suc k → Spelled n t d u → suc k + cell_count d ≤ list_limit → tail_at n front t ≡ Ok (cells front d, u)
 tail_again n k front {t} {u} {d} len s room = spelled_again_tail s front (let c = cell_count-cells front d in omega arith)

@@ -38,7 +38,7 @@ dot_holds (c ∷ cs) =
 dot_again : (rest : List ℕ) → BeginsGap rest → dot_at (dot ∷ rest) ≡ Ok rest
 dot_again rest h = rw (begins_from rest h) refl
 
--- a term and its dot
+-- a term and its dot were read
 pub record SentenceRead (text : List ℕ) (d : Datum) (rest : List ℕ) : Type 0 where
   pub behind : List ℕ
   pub spelled : Spelled MAX_DEPTH text d behind
@@ -52,7 +52,7 @@ sentence_holds text =
     (λ x h. bind_holds (λ (rest : List ℕ). (after_gap false x.1 ≡ dot ∷ rest) × BeginsGap rest) (λ (y : Datum × List ℕ). SentenceRead text y.0 y.1) (dot_at (after_gap false x.1)) _ (dot_holds (after_gap false x.1))
     (λ rest e. let g = gap_some x.1 (rw e.0 (omega arith)) in record { behind = x.1; spelled = h.0; gap = rw e.0 at g; begins = e.1 }))
 
--- the terms so far, and those of any text with this behind its first gap
+-- the terms so far, and those of any text that has this text after its first gap
 pub record TermsRead (ds : List Datum) (text : List ℕ) (es : List Datum) (rest : List ℕ) : Type 0 where
   pub more : List Datum
   pub joined : es ≡ ds ++ more
@@ -87,7 +87,7 @@ step_shorter ds (c ∷ cs) =
 pub sentence_shrinks : Shrinks sentence_step
 sentence_shrinks = record { shorter = λ s text t e. holds_at (λ (t : Bool × List Datum × List ℕ). t.0 ≡ true → length t.2 < length text) (sentence_step s text) t (step_shorter s text) e }
 
--- what is read is spelled so
+-- what is read is what the text spells
 pub text_holds : (text : List ℕ) → IfOk (text_at text) (λ ds. Sentences text ds)
 unfolding text_at
 text_holds text =
@@ -127,7 +127,7 @@ sentences_again (sentence {text} {t} {u} {rest} {d} {ds} g s h b more) front =
     ∙ all_steps_is sentence_step sentence_shrinks front t
     ∙ rw (step_again front t rest d (spelled_first s) (sentence_again t rest d s h b)) (sentences_again more (front ++ d ∷ []) ∙ ap (λ (es : List Datum). Ok (es, [])) (append_assoc front (d ∷ []) ds))
 
--- what is spelled is read so
+-- what the text spells is read
 pub text_again : (text : List ℕ) (ds : List Datum) → Sentences text ds → text_at text ≡ Ok ds
 unfolding text_at
 text_again text ds h = rw (sentences_again h []) refl

@@ -1,4 +1,4 @@
--- What the readers of tokens give is what the text spells, and the other way round.
+-- What the readers of tokens give is what the text spells, and vice versa.
 use Rattle.std.proofs.Common.{◌≡◌, ◌≢◌, ℕ, suc, ◌+◌, ◌≤◌, ◌<◌, inl, inr, Bool, true, false, cond, List, [], ◌∷◌, ◌++◌, length, Option, Some, None, Ok, refl, sym, ◌∙◌, arith, append_assoc}
 use Rattle.std.specs.Prelude.{IfOk, ◌==◌}
 use Rattle.std.proofs.lemmas.Bool.{eqb-true, eqb-false, eq-eqb, ne_eqb, le-leb, cases_eq}
@@ -44,7 +44,7 @@ character_shorter : (g : Bool) (c : ℕ) (text : List ℕ) (x : ℕ) (rest : Lis
 character_shorter g c text x rest (as_it_is n l) = omega arith
 character_shorter g c text x rest (as_escape b h) = omega arith
 
--- what the characters so far and those up to the mark are
+-- the characters so far, followed by those up to the closing mark
 pub record Reads (m : Marks) (cs text ds rest : List ℕ) : Type 0 where
   pub more : List ℕ
   pub joined : ds ≡ cs ++ more
@@ -104,7 +104,7 @@ pub quoted_step_is : (m : Marks) (cs text : List ℕ) (count : ℕ) (next : Opti
 unfolding quoted_step
 quoted_step_is m cs text count next rest h e = rw (← h, e) refl
 
--- the characters up to a mark
+-- what is read as quoted characters is what the text spells
 pub quoted_holds : (m : Marks) → (text : List ℕ) → IfOk (quoted_at m text) (λ x. Reads m [] text x.0 x.1)
 quoted_holds m text = steps_hold (quoted_step m) (Reads m) (λ s text. step_holds m s text) (suc (length text)) [] text
 
@@ -137,7 +137,7 @@ mutual
   comment_again (ended g) = gap_again g
   comment_again (passed {c} n k) = rw (ne_eqb c line_feed n) (comment_again k)
 
--- what stands behind the gap in front, or the last comment
+-- what follows the gap at the beginning, or the last comment
 pub data Behind : List ℕ → List ℕ → Type 0 where
   something : {text rest : List ℕ} → Gap text rest → Behind text rest
   nothing : {text rest : List ℕ} → Gap text rest → IsLastComment rest → Behind text []
@@ -183,6 +183,6 @@ mutual
     | inr n ↦ rw (ne_eqb c line_feed n) (behind_passed c text _ n (comment_holds text))
   ]
 
--- where something follows the gap
+-- if a character follows, the gap ends before it
 pub gap_to : (text rest : List ℕ) (c : ℕ) → Behind text (c ∷ rest) → Gap text (c ∷ rest)
 gap_to text rest c (something g) = g

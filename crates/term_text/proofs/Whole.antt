@@ -1,4 +1,4 @@
--- What is spelled is read so.
+-- What a text spells is what is read.
 use Rattle.std.proofs.Common.{◌≡◌, ℕ, suc, ◌+◌, ◌-◌, ◌≤◌, ◌<◌, ◌⊎◌, inl, inr, true, false, List, [], ◌∷◌, ◌++◌, length, Some, None, Ok, ℤ, pos, refl, sym, ap, ◌∙◌, arith, append_assoc, lit<}
 use Rattle.std.proofs.Common.{map as each}
 use Rattle.std.specs.Prelude.{◌==◌}
@@ -25,8 +25,8 @@ use Rattle.std.specs.BTreeMap.{insert_entry}
 use Rattle.std.proofs.lemmas.List.Sorted.{length_permutation}
 use Rattle.term_core.specs.Order.{datum_cmp}
 use Rattle.term_text.proofs.Keys.{put_permutes, put_all, put_all-none, put_all-more, put_all_ordered, AreApart, apart_fresh, apart_next, apart_at_first}
-use Rattle.term_text.specs.TokenReading.{is_allowed, Read, ◌>>=◌, all_steps, after_gap, behind, behind_both, opening, is_sign, quoted_at}
-use Rattle.term_text.specs.Reading.{has_key, pair_at, map_at, comma_in, behind_comma, enter, atom_marks, string_marks, byte_marks, string_at, integer_term_at, word_term_at, quoted_atom_at, element_at, elements_at, separated, tuple_at, list_at, list_end, byte_at, segment_at, segments_at, binary_at, form_at, tail_form, term_at, tail_at}
+use Rattle.term_text.specs.TokenReading.{is_allowed, Read, ◌>>=◌, all_steps, after_gap, behind, after_both, opening, is_sign, quoted_at}
+use Rattle.term_text.specs.Reading.{has_key, pair_at, map_at, comma_in, after_comma, enter, atom_marks, string_marks, byte_marks, string_at, integer_term_at, word_term_at, quoted_atom_at, element_at, elements_at, separated, tuple_at, list_at, list_end, byte_at, segment_at, segments_at, binary_at, form_at, tail_form, term_at, tail_at}
 use Rattle.term_text.proofs.Steps.{Shrinks, all_steps_is}
 use Rattle.term_text.proofs.Tokens.{quoted_again, gap_again}
 use Rattle.term_text.proofs.Words.{BeginsInteger, integer_again, integer_begins, word_again, opening_integer, opening_word}
@@ -90,12 +90,12 @@ first_bracket : (text : List ℕ) → IsFirst text → behind close_bracket text
 first_bracket [] h = absurd h
 first_bracket (c ∷ cs) h = rw h.3 refl
 
-first_greater : (text : List ℕ) → IsFirst text → behind_both greater greater text ≡ None
+first_greater : (text : List ℕ) → IsFirst text → after_both greater greater text ≡ None
 first_greater [] h = absurd h
 first_greater (c ∷ []) h = refl
 first_greater (c ∷ d ∷ cs) h = rw h.4 refl
 
--- the gap in front of a term
+-- the gap before a term is all that is passed
 pub gap_first : {text t : List ℕ} → Gap text t → IsFirst t → after_gap false text ≡ t
 gap_first {text} {t} g h = gap_again g ∙ first_gap t h
 
@@ -113,10 +113,10 @@ stops_comma : (rest : List ℕ) → Stops rest → comma_in rest ≡ (false, res
 stops_comma [] h = absurd h
 stops_comma (c ∷ cs) h = rw h.2 refl
 
-last_item : {t rest : List ℕ} → Gap t rest → Stops rest → behind_comma t ≡ (false, rest)
+last_item : {t rest : List ℕ} → Gap t rest → Stops rest → after_comma t ≡ (false, rest)
 last_item {t} {rest} g h = ap comma_in (gap_again g ∙ stops_gap rest h) ∙ stops_comma rest h
 
-more_items : {t u v : List ℕ} → Gap t (comma ∷ u) → Gap u v → IsFirst v → behind_comma t ≡ (true, v)
+more_items : {t u v : List ℕ} → Gap t (comma ∷ u) → Gap u v → IsFirst v → after_comma t ≡ (true, v)
 more_items {t} {u} {v} g k h = ap comma_in (gap_again g) ∙ ap (λ (r : List ℕ). (true, r)) (gap_first k h)
 
 module _ {S : Type 0} (item : S → List ℕ → Read S) (shrinks : Shrinks (separated item)) where

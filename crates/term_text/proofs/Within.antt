@@ -1,4 +1,4 @@
--- What is spelled is within the limits of terms, so that only want of memory refuses it.
+-- What is spelled is within the limits of terms, so that making it fails only if memory runs out.
 use Rattle.std.proofs.Common.{◌≡◌, ℕ, zero, suc, max, ◌≤◌, ◌<◌, List, [], ◌∷◌, ◌++◌, length, get_or, refl, ap, ◌∙◌, arith}
 use Rattle.std.proofs.Common.{map as each}
 use Rattle.std.specs.List.{All, AllByRecursion}
@@ -164,7 +164,7 @@ spelled_short (a_binary {bytes} g ss l) = not_more (length bytes) MAX_BINARY l
 pub spelled_within : {n : ℕ} {text rest : List ℕ} {d : Datum} → n ≤ MAX_DEPTH → Spelled n text d rest → IsWithin d
 spelled_within {n} {d} l s = (let deep = spelled_depth s in omega arith, spelled_short s)
 
--- ---- what refuses a term within its limits
+-- ---- how making a term within its limits can fail
 
 pub memory_alone : (fault : Fault) (d : Datum) → IsWithin d → IsFault fault d → fault ≡ faults.Memory
 memory_alone faults.Memory d w h = refl

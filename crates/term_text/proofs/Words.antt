@@ -15,7 +15,7 @@ use Rattle.term_text.specs.declared.token.Opening.{Opening}
 use Rattle.term_text.specs.declared.token.Opening.TheVariants as opens
 use Rattle.term_text.specs.Tokens.{EndsRun, Run, Number, Integer}
 use Rattle.term_text.specs.Tokens.Integer.{unsigned, positive, negative}
-use Rattle.term_text.specs.TokenReading.{behind, begins, opening, is_sign, number_run, number_at, behind_sign, integer_at, word_at, signed, fits}
+use Rattle.term_text.specs.TokenReading.{behind, begins, opening, is_sign, number_run, number_at, after_sign, integer_at, word_at, signed, fits}
 use Rattle.term_text.proofs.Steps.{if_holds}
 use Rattle.term_text.proofs.Tokens.{if_is}
 
@@ -28,18 +28,18 @@ run_holds p (c ∷ text) = elim (cases_Bool (p c)) [
   | inr e ↦ rw e (record { whole = refl; each = tt; ended = e })
 ]
 
-run_len : (p : ℕ → Bool) (run rest : List ℕ) → AllByRecursion (λ c. p c ≡ true) run → EndsRun p rest → prefix_len p (run ++ rest) ≡ length run
+pub run_len : (p : ℕ → Bool) (run rest : List ℕ) → AllByRecursion (λ c. p c ≡ true) run → EndsRun p rest → prefix_len p (run ++ rest) ≡ length run
 run_len p [] [] all ended = refl
 run_len p [] (c ∷ rest) all ended = rw ended refl
 run_len p (c ∷ run) rest all ended = rw (all.0, one-add) (ap suc (run_len p run rest all.1 ended))
 
--- a run has one end
+-- a run has only one end
 pub run_again : (p : ℕ → Bool) {text run rest : List ℕ} → Run p text run rest → prefix_len p text ≡ length run
 run_again p {text} {run} {rest} r = ap (prefix_len p) r.whole ∙ run_len p run rest r.each r.ended
 
 -- ---- integers
 
--- the digits in front, and their number behind those of n
+-- the digits at the beginning, and their number as a continuation of n
 pub record Digits (n : ℕ) (text : List ℕ) (v : ℕ) (rest : List ℕ) : Type 0 where
   pub digits : List ℕ
   pub run : Run is_ascii_digit text digits rest
@@ -105,7 +105,7 @@ digits_begin (c ∷ digits) rest some all = all.0
 pub number_begins : {text rest : List ℕ} {n : ℕ} → Number text n rest → begins is_ascii_digit text ≡ true
 number_begins {text} {rest} h = rw h.run.whole (digits_begin h.digits rest h.some h.run.each)
 
-pub unsigned_sign : (text : List ℕ) → begins is_ascii_digit text ≡ true → behind_sign text ≡ (false, text)
+pub unsigned_sign : (text : List ℕ) → begins is_ascii_digit text ≡ true → after_sign text ≡ (false, text)
 unsigned_sign [] b = absurd cc
 unsigned_sign (c ∷ cs) b = let d = digit_no_sign c b in rw (d.0, d.1) refl
 
@@ -131,7 +131,7 @@ word_again {text} {cs} {rest} r h =
     let len : prefix_len is_word text ≡ length cs = run_again is_word r in
     rw (len, le-ltb MAX_CHARACTERS (length cs) h, r.whole, take_at cs rest (length cs) refl, drop_at cs rest (length cs) refl) refl
 
--- a word so far, and what is left of its text
+-- the word so far, and the rest of its text
 pub record WordSoFar (text cs rest : List ℕ) : Type 0 where
   pub whole : text ≡ cs ++ rest
   pub each : AllByRecursion (λ c. is_word c ≡ true) cs
@@ -174,7 +174,7 @@ abbrev pub BeginsWord : List ℕ → Type 0
 BeginsWord [] = ⊥
 BeginsWord (c ∷ cs) = is_ascii_lowercase c ≡ true
 
--- what stands in the text where it begins so, and what follows
+-- what a text begins with, given its first token, and what follows
 abbrev pub Opens : Opening → List ℕ → List ℕ → Type 0
 Opens opens.Integer text rest = (text ≡ rest) × BeginsInteger text
 Opens opens.Word text rest = (text ≡ rest) × BeginsWord text

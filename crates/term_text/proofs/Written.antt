@@ -1,5 +1,5 @@
 -- A canonical text spells its term.
-use Rattle.std.proofs.Common.{◌≡◌, ℕ, zero, suc, ◌+◌, ◌%◌, ◌^◌, ◌≤◌, ◌<◌, inl, inr, true, false, not, Option, Some, List, [], ◌∷◌, ◌++◌, length, ℤ, pos, negsuc, refl, sym, ap, ◌∙◌, subst, arith, append_assoc, decimal}
+use Rattle.std.proofs.Common.{◌≡◌, ℕ, zero, suc, ◌+◌, ◌%◌, ◌^◌, ◌≤◌, ◌<◌, inl, inr, true, false, not, Some, List, [], ◌∷◌, ◌++◌, length, ℤ, pos, negsuc, refl, sym, ap, ◌∙◌, subst, arith, append_assoc, decimal}
 use Rattle.std.specs.Prelude.{◌==◌, ◌&&◌, FitsSigned}
 use Rattle.std.proofs.Common.{map as each}
 use Rattle.std.specs.Int.{w64}
@@ -35,9 +35,9 @@ use Rattle.term_text.specs.Tokens.Integer.{unsigned, negative}
 use Rattle.term_text.specs.Tokens.Quoted.{closed, plain, escape}
 use Rattle.term_text.specs.declared.write.Form.{Form}
 use Rattle.term_text.specs.Canonical.{text_as, more_items_text, more_entries_text, tail_text, atom_text, is_bare, is_reserved, bytes_text, more_bytes, quoted_character, quoted_characters, quoted_text, are_word, has_bare_form}
-use Rattle.term_text.specs.Canonical.{shows_strings, segments_text, is_some, is_shown, are_shown, is_character, is_string, code_of, codes_of}
+use Rattle.term_text.specs.Canonical.{shows_strings, segments_text, is_some, are_shown, is_character, is_string, code_of, codes_of}
 
--- what follows goes on no word
+-- what ends a word ends digits
 digit_is_word : (c : ℕ) → is_word c ≡ false → is_ascii_digit c ≡ false
 digit_is_word c h = grind arith
 
@@ -93,7 +93,7 @@ words (c ∷ cs) h = let p = and_parts (is_word c) (are_word cs) h in (p.0, word
 pub word_written : (cs rest : List ℕ) → are_word cs ≡ true → EndsRun is_word rest → Run is_word (cs ++ rest) cs rest
 word_written cs rest h e = record { whole = refl; each = words cs h; ended = e }
 
--- a mark that a backslash before it keeps
+-- a mark that an escape can stand for
 abbrev IsMark : ℕ → Type 0
 IsMark m = escaped m ≡ Some m
 
@@ -215,7 +215,7 @@ rising_pairs : (es : Entries) → ArePairsSound es → AreRising (pairs_of es)
 rising_pairs no_entries h = tt
 rising_pairs (entry k v es) h = (rw (entries_of-pairs_of es) h.2, rising_pairs es h.3)
 
--- the text of a list behind its opening
+-- the text of a list after its opening
 data ListText (n : ℕ) (text : List ℕ) : Datum → List ℕ → Type 0 where
   proper : {ds : List Datum} {rest : List ℕ} → Elements n text ds (close_bracket ∷ rest) → ListText n text (cells ds nil) rest
   improper : {ds : List Datum} {d : Datum} {u rest : List ℕ} → Elements n text ds (bar ∷ u) → Spelled n u d (close_bracket ∷ rest) → ListText n text (cells ds d) rest
@@ -253,7 +253,7 @@ atom_written cs n rest h e = elim (cases_Bool (is_bare cs)) [
   | inr quoted ↦ rw (quoted, append_assoc) (a_quoted_atom (quoted_written single_quote refl cs rest) h)
 ]
 
--- how a term is spelled, whatever follows it that goes on no word
+-- how a term is spelled, before any text that doesn't continue a word
 abbrev IsWritten : Form → ℕ → Datum → Type 0
 IsWritten f n d = (rest : List ℕ) → EndsRun is_word rest → Spelled n (text_as f d ++ rest) d rest
 
@@ -280,7 +280,7 @@ binary_again f bs s t (suc n) h rest e = rw append_assoc (binary_written f n bs 
 pair_written : (f : Form) → (n : ℕ) (k v : Datum) → IsWritten f n k → IsWritten f n v → (rest : List ℕ) → EndsRun is_word rest → Pair n (text_as f k ++ (equals ∷ greater ∷ (text_as f v ++ rest))) k v rest
 pair_written f n k v a b rest e = arrow (a (equals ∷ greater ∷ (text_as f v ++ rest)) refl) no_gap no_gap (b rest e)
 
--- a list of characters is deep enough for them
+-- a list of characters is spelled by its string if it may be deep enough for them
 string_written : (n : ℕ) (d : Datum) (rest : List ℕ) → is_string d ≡ true → cell_count d ≤ MAX_LIST → depth d ≤ suc n → 0 < cell_count d → Spelled (suc n) (double_quote ∷ (quoted_characters double_quote (codes_of d) ++ double_quote ∷ rest)) d rest
 string_written zero nil rest h few deep some = absurd (omega arith)
 string_written zero (cons head tail) rest h few deep some = absurd (let p = depth_positive head in omega arith)

@@ -1,7 +1,7 @@
--- A text that is added to another one.
+-- A text that is appended to another one.
 use Rattle.std.specs.Prelude.{ℕ, List, take, drop}
 
--- what was there, and what is added behind it
+-- what was there before, and what is appended to it
 pub record Text : Type 0 where
   pub front : List ℕ
   pub items : List ℕ

@@ -1,6 +1,6 @@
 -- The one canonical text of a term: no white space, lists never as strings, binaries as decimal bytes. And the readable
--- text, where lists and binaries of printable characters stand between double quotes.
-use Rattle.std.specs.Prelude.{ℕ, ◌≡◌, ◌==◌, ◌&&◌, ◌||◌, ◌↔◌, ℤ, pos, negsuc, List, [], ◌∷◌, ◌++◌, Bool, true, false, not, if◌then◌else◌, codes, decimal}
+-- text, which has lists and binaries of printable characters between double quotes.
+use Rattle.std.specs.Prelude.{ℕ, ◌≡◌, ◌==◌, ◌&&◌, ◌||◌, ◌↔◌, pos, negsuc, List, [], ◌∷◌, ◌++◌, Bool, true, false, not, if◌then◌else◌, codes, decimal}
 use Rattle.std.specs.Fmt.{signed_decimal}
 use Rattle.std.specs.List.{list_any}
 use Rattle.std.specs.Str.{bytes_eq, encode_utf8_all}
@@ -15,7 +15,7 @@ use Rattle.term_text.specs.declared.write.Form.{Form}
 use Rattle.term_text.specs.declared.write.Form.TheVariants as forms
 use Rattle.term_text.specs.Character.{line_feed, dot, comma, backslash, single_quote, double_quote, open_brace, close_brace, open_bracket, close_bracket, bar, number_sign, equals, less, greater, is_word}
 
--- words that are written in quotes
+-- the reserved words, of which an atom is written in quotes
 abbrev pub reserved : List (List ℕ)
 reserved =
     codes "after" ∷ codes "and" ∷ codes "andalso" ∷ codes "band" ∷ codes "begin" ∷ codes "bnot" ∷ codes "bor" ∷ codes "bsl"
@@ -26,11 +26,16 @@ reserved =
 unfoldable pub is_reserved : List ℕ → Bool
 is_reserved cs = list_any (bytes_eq cs) reserved
 
+-- whether a reserved word begins with this character
+abbrev pub begins_reserved : ℕ → Bool
+begins_reserved c =
+    is_in_range 97 102 c || (c == 105 || (is_in_range 108 111 c || (c == 114 || (c == 116 || (c == 119 || c == 120)))))
+
 abbrev pub are_word : List ℕ → Bool
 are_word [] = true
 are_word (c ∷ cs) = is_word c && are_word cs
 
--- a small letter, and letters, digits, `_` and `@` behind it
+-- whether a text is a bare word: a small letter, followed by letters, digits, `_` and `@`
 abbrev pub has_bare_form : List ℕ → Bool
 has_bare_form [] = false
 has_bare_form (c ∷ cs) = is_ascii_lowercase c && are_word cs
@@ -38,7 +43,7 @@ has_bare_form (c ∷ cs) = is_ascii_lowercase c && are_word cs
 abbrev pub is_bare : List ℕ → Bool
 is_bare cs = has_bare_form cs && not (is_reserved cs)
 
--- a character between such marks
+-- a character as it is written between these quotation marks
 abbrev pub quoted_character : ℕ → ℕ → List ℕ
 quoted_character mark c =
     if c == backslash then backslash ∷ backslash ∷ []
@@ -60,7 +65,7 @@ atom_text cs = if is_bare cs then cs else quoted_text single_quote cs
 
 -- ---- strings
 
--- a printable character of ASCII, a tab, a line feed or a carriage return
+-- whether a character is printable ASCII, a tab, a line feed or a carriage return
 abbrev pub is_shown : ℕ → Bool
 is_shown c = is_in_range 32 126 c || (c == 9 || (c == 10 || c == 13))
 
@@ -68,7 +73,7 @@ abbrev pub are_shown : List ℕ → Bool
 are_shown [] = true
 are_shown (c ∷ cs) = is_shown c && are_shown cs
 
--- such a character as an element of a list
+-- whether a term is the code of a printable character
 abbrev pub is_character : Datum → Bool
 is_character (integer (pos c)) = is_shown c
 is_character (integer (negsuc n)) = false
@@ -79,7 +84,7 @@ is_character nil = false
 is_character (cons head tail) = false
 is_character (binary bs) = false
 
--- a proper list of such characters
+-- whether a term is a proper list of codes of printable characters
 abbrev pub is_string : Datum → Bool
 is_string nil = true
 is_string (cons head tail) = is_character head && is_string tail
@@ -99,7 +104,7 @@ code_of nil = 0
 code_of (cons head tail) = 0
 code_of (binary bs) = 0
 
--- the characters of such a list
+-- the characters of a proper list of their codes
 abbrev pub codes_of : Datum → List ℕ
 codes_of (cons head tail) = code_of head ∷ codes_of tail
 codes_of nil = []
@@ -111,12 +116,12 @@ codes_of (binary bs) = []
 
 -- ---- terms
 
--- whether strings stand between double quotes
+-- whether lists and binaries of printable characters are written between double quotes
 abbrev pub shows_strings : Form → Bool
 shows_strings forms.Canonical = false
 shows_strings forms.Readable = true
 
--- bytes behind the first, each behind a comma
+-- the bytes after the first, each after a comma
 abbrev pub more_bytes : List ℕ → List ℕ
 more_bytes [] = []
 more_bytes (b ∷ bs) = (comma ∷ decimal b) ++ more_bytes bs
@@ -129,7 +134,7 @@ abbrev pub is_some : List ℕ → Bool
 is_some [] = false
 is_some (b ∷ bs) = true
 
--- what stands in a binary
+-- the content of a binary
 abbrev pub segments_text : Form → List ℕ → List ℕ
 segments_text f bs =
     if shows_strings f && (is_some bs && are_shown bs) then quoted_text double_quote bs else bytes_text bs
@@ -153,7 +158,7 @@ unfoldable mutual
   items_text f no_items = []
   items_text f (item d ds) = text_as f d ++ more_items_text f ds
 
-  -- elements behind the first, each behind a comma
+  -- the elements after the first, each after a comma
   pub more_items_text : Form → Items → List ℕ
   more_items_text f no_items = []
   more_items_text f (item d ds) = (comma ∷ text_as f d) ++ more_items_text f ds
@@ -168,7 +173,7 @@ unfoldable mutual
   more_entries_text f (entry k v es) =
       (comma ∷ text_as f k) ++ (equals ∷ greater ∷ text_as f v) ++ more_entries_text f es
 
-  -- behind a list's element: more elements behind commas, the tail behind a bar, and the end
+  -- what follows an element of a list: more elements, each after a comma, the tail after a bar, and the closing bracket
   pub tail_text : Form → Datum → List ℕ
   tail_text f nil = close_bracket ∷ []
   tail_text f (cons head tail) = (comma ∷ text_as f head) ++ tail_text f tail

@@ -1,7 +1,6 @@
--- Why a text is refused at a place: what is due there, given what stands before it, and what stands there instead. Of
--- what is looked at there one after the other, all that comes before the cause is as it has to be: that a term begins,
--- that a level is left, that there is room for one more, that it is in range, and, once it is read, that it is no key
--- which stands there already. So a text has one cause at most.
+-- Why a text is rejected at a place: what is due there, given the text before, and what is there instead. The
+-- conditions at a place have an order: a term begins, a level is left, there is room for one more, an integer is in
+-- range, and, once it is read, a key is new. All conditions before the cause are met, so a text has at most one cause.
 use Rattle.std.specs.Prelude.{ℕ, suc, ◌≡◌, ◌≢◌, ◌+◌, ◌<◌, ◌≤◌, ◌⊎◌, ℤ, pos, negsuc, List, [], ◌∷◌, ◌++◌, length, IsTrue, false, Some, None}
 use Rattle.std.specs.List.{Contains}
 use Rattle.std.specs.Char.{is_ascii_digit, is_ascii_lowercase}
@@ -14,41 +13,41 @@ use Rattle.term_text.specs.Text.{Segment, Spelled, Pair, BeginsGap}
 use Rattle.term_text.specs.declared.fault.TextFault.{TextFault}
 use Rattle.term_text.specs.declared.fault.TextFault.TheVariants as faults
 
--- what has elements
+-- what has elements: a tuple or a list
 pub data Row : Type 0 where
   in_tuple : Row
   in_list : Row
 
--- how many elements it may have
+-- the largest number of elements
 abbrev pub most_elements : Row → ℕ
 most_elements in_tuple = tuple_limit
 most_elements in_list = list_limit
 
--- what stands in quotes; a string's characters have so many levels left
+-- what is in quotes: an atom, a string whose characters have this number of levels left, or the bytes of a binary
 pub data Quotes : Type 0 where
   of_atom : Quotes
   of_string : ℕ → Quotes
   of_bytes : Quotes
 
--- the mark that ends it
+-- the mark that ends the quotes
 abbrev pub mark_of : Quotes → ℕ
 mark_of of_atom = single_quote
 mark_of (of_string levels) = double_quote
 mark_of of_bytes = double_quote
 
--- how many characters it may have, those of the list or binary that it continues among them
+-- the largest number of characters, counting those of the list or binary that the quotes continue
 abbrev pub most_characters : Quotes → ℕ
 most_characters of_atom = atom_limit
 most_characters (of_string levels) = list_limit
 most_characters of_bytes = binary_limit
 
--- a character may stand in the quotes
+-- a character is allowed in the quotes
 abbrev pub MayStand : Quotes → ℕ → Type 0
 MayStand of_atom c = Unit {0}
 MayStand (of_string levels) c = 0 < levels
 MayStand of_bytes c = c < 256
 
--- a level is left for a character
+-- a level is left for a character in the quotes
 abbrev pub HasLevel : Quotes → Type 0
 HasLevel of_atom = Unit {0}
 HasLevel (of_string levels) = 0 < levels
@@ -58,29 +57,30 @@ HasLevel of_bytes = Unit {0}
 abbrev pub IsNew : Datum → List (Datum × Datum) → Type 0
 IsNew key es = (v : Datum) → ¬ Contains es (key, v)
 
--- what may be due
+-- what may be due at a place of a text
 pub data Place : Type 0 where
   -- a term and its dot
   a_sentence : Place
-  -- a term with so many levels left; a list or string that begins there continues a list of so many elements
+  -- a term, given the number of levels left, and the number of elements of the list that a list or string there
+  -- continues
   a_term : ℕ → ℕ → Place
-  -- an element with so many levels left, behind so many
+  -- an element, given the number of levels left and the number of elements before it
   an_element : Row → ℕ → ℕ → Place
-  -- a pair with so many levels left, behind these
+  -- a pair, given the number of levels left and the pairs before it
   a_pair : ℕ → List (Datum × Datum) → Place
-  -- a segment behind so many bytes
+  -- a segment, given the number of bytes before it
   a_segment : ℕ → Place
-  -- a character in quotes behind so many, or the mark that ends them
+  -- a character in quotes, given the number of characters before it, or the mark that ends the quotes
   a_character : Quotes → ℕ → Place
-  -- a character of a bare word behind so many
+  -- a character of a bare word, given the number of characters before it
   a_letter : ℕ → Place
 
--- a character stands first
+-- the text begins with a character
 abbrev pub BeginsWith : ℕ → List ℕ → Type 0
 BeginsWith c [] = ⊥
 BeginsWith c (x ∷ text) = x ≡ c
 
--- two characters that are one token stand first
+-- the text begins with two characters that are one token
 abbrev pub BeginsWithBoth : ℕ → ℕ → List ℕ → Type 0
 BeginsWithBoth a b [] = ⊥
 BeginsWithBoth a b (x ∷ text) = (x ≡ a) × BeginsWith b text
@@ -90,13 +90,13 @@ abbrev pub EndsGap : List ℕ → Type 0
 EndsGap [] = Unit {0}
 EndsGap (c ∷ text) = (is_white_space c ≡ false) × (c ≢ percent)
 
--- all the white space and comments that stand there, the last comment perhaps ended by the end of the text
+-- the white space and comments at the beginning of a text, all of them; the end of the text may end the last comment
 pub data WholeGap : List ℕ → List ℕ → Type 0 where
   up_to : {text rest : List ℕ} → Gap text rest → EndsGap rest → WholeGap text rest
   to_the_end : {text rest : List ℕ} → Gap text rest → IsLastComment rest → WholeGap text []
 
--- Reading the text from its beginning, without fault so far, the place is due where the last argument is what is left
--- of it. Behind an opening something is due where it is not closed at once.
+-- Reading a text from its beginning gives no fault up to a rest, the last argument, and there this place is due. After
+-- an opening, something is due unless the closing follows at once.
 pub data Due (text : List ℕ) : Place → List ℕ → Type 0 where
   first : {t : List ℕ} → WholeGap text t → Due text a_sentence t
   behind_dot : {t u v w : List ℕ} {d : Datum} → Due text a_sentence t → Spelled depth_limit t d u
@@ -147,13 +147,13 @@ pub data Due (text : List ℕ) : Place → List ℕ → Type 0 where
   next_letter : {k c : ℕ} {t : List ℕ} → Due text (a_letter k) (c ∷ t) → k < atom_limit
       → IsTrue (is_word c) → Due text (a_letter (suc k)) t
 
--- an integer begins: a digit, or a sign directly in front of one
+-- an integer begins: a digit, or a sign directly followed by one
 pub data BeginsInteger : List ℕ → Type 0 where
   digit : {c : ℕ} {text : List ℕ} → IsTrue (is_ascii_digit c) → BeginsInteger (c ∷ text)
   sign : {s c : ℕ} {text : List ℕ} → (s ≡ plus) ⊎ (s ≡ minus) → IsTrue (is_ascii_digit c)
       → BeginsInteger (s ∷ c ∷ text)
 
--- a term begins, whether it ends well or not
+-- a term begins, whether it is complete and correct or not
 pub data BeginsTerm : List ℕ → Type 0 where
   an_integer : {text : List ℕ} → BeginsInteger text → BeginsTerm text
   a_word : {c : ℕ} {text : List ℕ} → IsTrue (is_ascii_lowercase c) → BeginsTerm (c ∷ text)
@@ -164,7 +164,7 @@ pub data BeginsTerm : List ℕ → Type 0 where
   a_map : {text : List ℕ} → BeginsTerm (number_sign ∷ open_brace ∷ text)
   a_binary : {text : List ℕ} → BeginsTerm (less ∷ less ∷ text)
 
--- a term, an element, a key or a string's character where no level is left
+-- a term, an element, a key or a string's character for which no level is left
 pub data IsTooDeep (text : List ℕ) : List ℕ → Type 0 where
   deep_term : {k : ℕ} {rest : List ℕ} → Due text (a_term 0 k) rest → BeginsTerm rest
       → IsTooDeep text rest
@@ -175,7 +175,7 @@ pub data IsTooDeep (text : List ℕ) : List ℕ → Type 0 where
   deep_character : {k c : ℕ} {rest : List ℕ} → Due text (a_character (of_string 0) k) (c ∷ rest)
       → c ≢ double_quote → IsTooDeep text (c ∷ rest)
 
--- one more than may stand there
+-- one element, pair, byte, character or letter more than is allowed
 pub data IsTooLong (text : List ℕ) : List ℕ → Type 0 where
   one_element : {r : Row} {n k : ℕ} {rest : List ℕ} → Due text (an_element r n k) rest → 0 < n
       → k ≡ most_elements r → BeginsTerm rest → IsTooLong text rest
@@ -194,7 +194,7 @@ pub data IsKeyTwice (text : List ℕ) : List ℕ → Type 0 where
       → Due text (a_pair n es) t → length es < map_limit → Spelled n t k rest → Contains es (k, v)
       → IsKeyTwice text t
 
--- an integer that has more than 64 bits
+-- an integer that needs more than 64 bits
 pub data IsWide : List ℕ → Type 0 where
   wide : {text rest : List ℕ} {n : ℕ} → Number text n rest → 9223372036854775807 < n → IsWide text
   wide_positive : {text rest : List ℕ} {n : ℕ} → Number text n rest → 9223372036854775807 < n
@@ -202,12 +202,12 @@ pub data IsWide : List ℕ → Type 0 where
   wide_negative : {text rest : List ℕ} {n : ℕ} → Number text n rest → 9223372036854775808 < n
       → IsWide (minus ∷ text)
 
--- no byte: below 0, or past 255
+-- an integer that is not a byte: below 0 or above 255
 abbrev pub IsNoByte : ℤ → Type 0
 IsNoByte (pos n) = 255 < n
 IsNoByte (negsuc n) = Unit {0}
 
--- an integer of more than 64 bits, or what is no byte where a byte is due
+-- an integer of more than 64 bits, or what is not a byte where a byte is due
 pub data IsOutOfRange (text : List ℕ) : List ℕ → Type 0 where
   wide_term : {n k : ℕ} {rest : List ℕ} → Due text (a_term n k) rest → 0 < n → IsWide rest
       → IsOutOfRange text rest
@@ -218,24 +218,24 @@ pub data IsOutOfRange (text : List ℕ) : List ℕ → Type 0 where
   no_byte_character : {k c : ℕ} {rest : List ℕ} → Due text (a_character of_bytes k) (c ∷ rest)
       → k < binary_limit → 255 < c → IsOutOfRange text (c ∷ rest)
 
--- a backslash in quotes, in front of a character that makes no escape
+-- a backslash in quotes, followed by a character that makes no escape
 pub data IsNoEscape (text : List ℕ) : List ℕ → Type 0 where
   no_escape : {q : Quotes} {k e : ℕ} {rest : List ℕ}
       → Due text (a_character q k) (backslash ∷ e ∷ rest) → k < most_characters q → HasLevel q
       → escaped e ≡ None → IsNoEscape text (backslash ∷ e ∷ rest)
 
--- a dot stands first, and what may follow it
+-- the text begins with a dot, followed by a gap or the end
 abbrev pub BeginsDot : List ℕ → Type 0
 BeginsDot [] = ⊥
 BeginsDot (x ∷ text) = (x ≡ dot) × BeginsGap text
 
--- what may stand behind an element
+-- what may follow an element
 abbrev pub FollowsElement : Row → List ℕ → Type 0
 FollowsElement in_tuple text = BeginsWith comma text ⊎ BeginsWith close_brace text
 FollowsElement in_list text =
     BeginsWith comma text ⊎ (BeginsWith bar text ⊎ BeginsWith close_bracket text)
 
--- what can't stand where it does, be it the end of the text
+-- what is not allowed where it is; it may be the end of the text
 pub data IsUnexpected (text : List ℕ) : List ℕ → Type 0 where
   no_character : {q : Quotes} {k : ℕ} → Due text (a_character q k) [] → IsUnexpected text []
   no_escaped : {q : Quotes} {k : ℕ} → Due text (a_character q k) (backslash ∷ [])
@@ -254,7 +254,7 @@ pub data IsUnexpected (text : List ℕ) : List ℕ → Type 0 where
   behind_tail : {n k : ℕ} {t u rest : List ℕ} {d : Datum} → Due text (a_term n (suc k)) t
       → Spelled n t d u → suc k + cell_count d ≤ list_limit → WholeGap u rest
       → ¬ BeginsWith close_bracket rest → IsUnexpected text rest
-  behind_key : {n : ℕ} {es : List (Datum × Datum)} {t u rest : List ℕ} {d : Datum}
+  after_key : {n : ℕ} {es : List (Datum × Datum)} {t u rest : List ℕ} {d : Datum}
       → Due text (a_pair n es) t → length es < map_limit → IsNew d es → Spelled n t d u
       → WholeGap u rest → ¬ BeginsWithBoth equals greater rest → IsUnexpected text rest
   behind_pair : {n : ℕ} {es : List (Datum × Datum)} {t u rest : List ℕ} {key value : Datum}
@@ -267,7 +267,7 @@ pub data IsUnexpected (text : List ℕ) : List ℕ → Type 0 where
   no_dot : {t u rest : List ℕ} {d : Datum} → Due text a_sentence t → Spelled depth_limit t d u
       → WholeGap u rest → ¬ BeginsDot rest → IsUnexpected text rest
 
--- at this byte of the characters, in UTF-8, begins what is such
+-- what begins at this byte of the text, in UTF-8, satisfies a condition
 pub record StandsAt (at : ℕ) (text : List ℕ) (IsSuch : List ℕ → Type 0) : Type 0 where
   pub front : List ℕ
   pub rest : List ℕ
@@ -275,7 +275,7 @@ pub record StandsAt (at : ℕ) (text : List ℕ) (IsSuch : List ℕ → Type 0) 
   pub place : at ≡ length (encode_utf8_all front)
   pub such : IsSuch rest
 
--- what a refusal names stands at its place in the text
+-- the cause that a fault names is at its place in the text
 abbrev pub HasCause : List ℕ → TextFault → Type 0
 HasCause bytes (faults.TooDeep at) = StandsAt at (chars bytes) (IsTooDeep (chars bytes))
 HasCause bytes (faults.TooLong at) = StandsAt at (chars bytes) (IsTooLong (chars bytes))

@@ -57,16 +57,16 @@ bar = 124
 abbrev pub close_brace : ℕ
 close_brace = 125
 
--- white space: tabs, line feeds, form feeds, carriage returns, spaces
+-- white space: horizontal and vertical tabs, line feeds, form feeds, carriage returns, spaces
 abbrev pub is_white_space : ℕ → Bool
 is_white_space c = is_in_range 9 13 c || c == 32
 
--- what a bare word goes on with: letters, digits, `_` and `@`
+-- whether a bare word can go on with a character: letters, digits, `_` and `@`
 abbrev pub is_word : ℕ → Bool
 is_word c = is_ascii_alphanumeric c || (c == 95 || c == 64)
 
--- the character that a backslash and this one stand for (Erlang Reference Manual, "Escape Sequences", without the
--- others)
+-- the character that an escape of a backslash and this character means, None if that is no escape (Erlang Reference
+-- Manual, "Escape Sequences"; the others are not supported)
 abbrev pub escaped : ℕ → Option ℕ
 escaped c =
     if c == 92 then Some 92
@@ -77,7 +77,7 @@ escaped c =
     else if c == 116 then Some 9
     else None
 
--- no ASCII character comes next
+-- the text does not begin with an ASCII character
 abbrev pub EndsAscii : List ℕ → Type 0
 EndsAscii [] = Unit {0}
 EndsAscii (c ∷ text) = 128 ≤ c

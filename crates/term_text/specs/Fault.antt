@@ -1,4 +1,4 @@
--- Faults by the byte where they stand.
+-- Faults with the byte where they are.
 use Rattle.std.specs.Prelude.{ℕ, ◌-◌, List, length, take}
 use Rattle.std.specs.Str.{encode_utf8_all}
 use Rattle.term_text.specs.declared.stop.Cause.{Cause}
@@ -16,7 +16,7 @@ at_byte causes.Syntax at = faults.Syntax at
 at_byte causes.IntegerRange at = faults.IntegerRange at
 at_byte causes.UnsupportedEscape at = faults.UnsupportedEscape at
 
--- a stop in a text of these characters
+-- the fault for a stop in a text of these characters
 abbrev pub fault_of : Stop → List ℕ → TextFault
 fault_of stops.Memory text = faults.Memory
 fault_of (stops.At cause left) text =

@@ -3,7 +3,7 @@ use Rattle.std.specs.Prelude.{ℕ, Option, Some, None}
 use Rattle.term_text.specs.declared.fault.TextFault.{TextFault}
 use Rattle.term_text.specs.declared.fault.TextFault.TheVariants as fault
 
--- the number that programs print
+-- the number that programs print for a fault
 abbrev pub number_of : TextFault → ℕ
 number_of fault.Memory = 1
 number_of (fault.TooDeep at) = 2
@@ -14,7 +14,7 @@ number_of (fault.BadUtf8 at) = 6
 number_of (fault.IntegerRange at) = 7
 number_of (fault.UnsupportedEscape at) = 8
 
--- the byte of the input at which it was met
+-- the byte of the input where a fault is, None if memory ran out
 abbrev pub place_of : TextFault → Option ℕ
 place_of fault.Memory = None
 place_of (fault.TooDeep at) = Some at

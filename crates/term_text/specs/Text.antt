@@ -17,22 +17,22 @@ use Rattle.term_text.specs.Tokens.{Gap, IsLastComment, Run, Integer, Quoted}
 abbrev pub code_point : ℕ → Datum
 code_point c = integer (pos c)
 
--- an integer that is a byte, or a string of characters that are bytes
+-- a text begins with a segment of a binary: an integer that is a byte, or a string of characters that are bytes
 pub data Segment : List ℕ → List ℕ → List ℕ → Type 0 where
   a_byte : {text rest : List ℕ} {b : ℕ} → Integer text (pos b) rest → b < 256
       → Segment text (b ∷ []) rest
   some_bytes : {text rest bytes : List ℕ} → Quoted double_quote text bytes rest
       → AllByRecursion (λ b. b < 256) bytes → Segment (double_quote ∷ text) bytes rest
 
--- one or more segments with commas between
+-- one or more segments separated by commas
 pub data Segments : List ℕ → List ℕ → List ℕ → Type 0 where
   last_segment : {text t rest bs : List ℕ} → Segment text bs t → Gap t rest → Segments text bs rest
   more_segments : {text t u v rest bs cs : List ℕ} → Segment text bs t → Gap t (comma ∷ u) → Gap u v
       → Segments v cs rest → Segments text (bs ++ cs) rest
 
 mutual
-  -- A term that is nested at most so many levels, itself one of them. Elements, tails, keys, values and the characters
-  -- of a string are one level below their term.
+  -- A term nested at most this many levels deep, counting itself as one. Elements, tails, keys, values and the
+  -- characters of a string are one level below their term.
   pub data Spelled : ℕ → List ℕ → Datum → List ℕ → Type 0 where
     an_integer : {n : ℕ} {text rest : List ℕ} {z : ℤ} → Integer text z rest
         → Spelled (suc n) text (integer z) rest
@@ -72,7 +72,7 @@ mutual
         → Segments t bytes (greater ∷ greater ∷ rest) → length bytes ≤ binary_limit
         → Spelled (suc n) (less ∷ less ∷ text) (binary bytes) rest
 
-  -- one or more terms with commas between, and the gap behind the last
+  -- one or more terms separated by commas, and the gap after the last
   pub data Elements : ℕ → List ℕ → List Datum → List ℕ → Type 0 where
     last : {n : ℕ} {text t rest : List ℕ} {d : Datum} → Spelled n text d t → Gap t rest
         → Elements n text (d ∷ []) rest
@@ -85,7 +85,7 @@ mutual
         → Gap t (equals ∷ greater ∷ u) → Gap u v → Spelled n v value rest
         → Pair n text key value rest
 
-  -- one or more of these with commas between, in any order
+  -- one or more pairs separated by commas, in any order
   pub data Pairs : ℕ → List ℕ → List (Datum × Datum) → List ℕ → Type 0 where
     last_pair : {n : ℕ} {text t rest : List ℕ} {key value : Datum} → Pair n text key value t
         → Gap t rest → Pairs n text ((key, value) ∷ []) rest
@@ -93,7 +93,7 @@ mutual
         → Pair n text key value t → Gap t (comma ∷ u) → Gap u v → Pairs n v es rest
         → Pairs n text ((key, value) ∷ es) rest
 
--- what a dot is followed by: white space, a comment, or the end of the text
+-- a dot has to be followed by white space, a comment, or the end of the text
 abbrev pub BeginsGap : List ℕ → Type 0
 BeginsGap [] = Unit {0}
 BeginsGap (c ∷ text) = IsTrue (is_white_space c) ⊎ (c ≡ percent)
@@ -113,7 +113,7 @@ pub data Front (text : List ℕ) : List Datum → List ℕ → Type 0 where
   behind : {t rest : List ℕ} {ds : List Datum} {d : Datum} → Front text ds t → Sentence t d rest
       → Front text (ds ++ d ∷ []) rest
 
--- a text of characters: terms, each followed by a dot
+-- a text of characters consists of terms, each followed by a dot
 pub data Sentences : List ℕ → List Datum → Type 0 where
   none : {text rest : List ℕ} → Gap text rest → IsLastComment rest → Sentences text []
   sentence : {text t u rest : List ℕ} {d : Datum} {ds : List Datum} → Gap text t
@@ -125,7 +125,7 @@ pub record Spells (bytes : List ℕ) (ds : List Datum) : Type 0 where
   pub utf8 : IsUtf8 bytes
   pub sentences : Sentences (chars bytes) ds
 
--- what stands next in a text: a term with its dot and the text that follows, or no more than a gap
+-- what comes next in a text: a term with its dot and the text that follows, or only a gap
 abbrev pub Next : List ℕ → Option (Datum × List ℕ) → Type 0
 Next text None = Sentences text []
 Next text (Some x) = Sentence text x.0 x.1

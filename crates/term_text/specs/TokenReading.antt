@@ -1,5 +1,5 @@
--- Reading from left to right, with the first fault that is met: steps and tokens. What the characters of a token spell
--- stands in Tokens.antt.
+-- Reading from left to right, up to the first fault: steps and tokens. What the characters of a token spell is defined
+-- in Tokens.antt.
 use Rattle.std.specs.Prelude.{ℕ, zero, suc, ◌≡◌, ◌+◌, ◌*◌, ◌==◌, ◌&&◌, ◌||◌, ℤ, pos, neg_ℤ, List, [], ◌∷◌, ◌++◌, length, take, drop, Bool, true, false, not, nat_le, nat_lt, Option, Some, None, Result, Ok, Err, if◌then◌else◌}
 use Rattle.std.specs.List.{prefix_len}
 use Rattle.std.specs.Char.{is_ascii_digit, is_ascii_lowercase, digit_value}
@@ -14,7 +14,7 @@ use Rattle.term_text.specs.declared.token.Marks.{Marks}
 use Rattle.term_text.specs.declared.token.Opening.TheVariants as opens
 use Rattle.term_text.specs.Character.{line_feed, percent, plus, minus, dot, backslash, single_quote, double_quote, open_brace, open_bracket, number_sign, less, is_white_space, is_word, escaped}
 
--- what is wrong, and how many characters are left there
+-- what is wrong, and the number of characters from there to the end
 abbrev pub Fault : Type 0
 Fault = Cause × ℕ
 
@@ -27,7 +27,7 @@ abbrev pub ◌>>=◌ : {A B : Type 0} → Result A Fault → (A → Result B Fau
 (Ok x) >>= f = f x
 (Err e) >>= f = Err e
 
--- what a function returned, seen by view, is what reading gives, unless memory ran out
+-- a stop that a function returned is what reading gives, unless memory ran out
 abbrev pub Fails : {Y : Type 0} → Stop → Result Y Fault → Type 0
 Fails stops.Memory read = Unit {0}
 Fails (stops.At cause left) read = read ≡ Err (cause, left)
@@ -40,7 +40,7 @@ Gives view (Err e) read = Fails e read
 abbrev pub stop : {X : Type 0} → Cause → List ℕ → Result X Fault
 stop cause text = Err (cause, length text)
 
--- the text without the white space and comments in front; the flag says that a comment has begun
+-- the text after the white space and comments at its beginning; the flag says that a comment has begun
 abbrev pub after_gap : Bool → List ℕ → List ℕ
 after_gap in_comment [] = []
 after_gap true (c ∷ cs) = after_gap (not (c == line_feed)) cs
@@ -48,7 +48,7 @@ after_gap false (c ∷ cs) =
     if c == percent then after_gap true cs else if is_white_space c then after_gap false cs else c ∷
     cs
 
--- Taking one step after another. A step gives whether to go on, what was made so far, and the text that follows.
+-- One step of reading. It gives whether to go on, what was made so far, and the text that follows.
 abbrev pub Step : Type 0 → Type 0
 Step S = S → List ℕ → Result (Bool × S × List ℕ) Fault
 
@@ -63,7 +63,7 @@ abbrev pub expect : ℕ → List ℕ → Result (List ℕ) Fault
 expect c [] = Err (Syntax, 0)
 expect c (x ∷ xs) = if x == c then Ok xs else stop Syntax (x ∷ xs)
 
--- two characters that are one token
+-- reads two characters that are one token
 abbrev pub expect_both : ℕ → ℕ → List ℕ → Result (List ℕ) Fault
 expect_both a b [] = Err (Syntax, 0)
 expect_both a b (x ∷ []) = stop Syntax (x ∷ [])
@@ -73,7 +73,7 @@ abbrev pub begins : (ℕ → Bool) → List ℕ → Bool
 begins p [] = false
 begins p (c ∷ cs) = p c
 
--- the text behind a character, where it stands there
+-- the text after a character, None if the text doesn't begin with it
 abbrev pub behind : ℕ → List ℕ → Option (List ℕ)
 behind c [] = None
 behind c (x ∷ xs) = if x == c then Some xs else None
@@ -81,7 +81,7 @@ behind c (x ∷ xs) = if x == c then Some xs else None
 abbrev pub is_sign : ℕ → Bool
 is_sign c = c == plus || c == minus
 
--- what a term begins with, and the text to read it from
+-- the first token of a term, and the text to read the term from
 abbrev pub opening : List ℕ → Option (Opening × List ℕ)
 opening [] = None
 opening (c ∷ cs) =
@@ -102,7 +102,7 @@ signed negative n = if negative then neg_ℤ (pos n) else pos n
 abbrev pub fits : Bool → ℕ → Bool
 fits negative n = nat_le n (if negative then 9223372036854775808 else 9223372036854775807)
 
--- the number that the digits in front write behind those of n, and the text behind them
+-- the number of the digits at the beginning, which continue the number n, and the text after them
 abbrev pub number_run : ℕ → List ℕ → ℕ × List ℕ
 number_run n [] = (n, [])
 number_run n (c ∷ cs) =
@@ -113,16 +113,16 @@ number_at negative start text =
     if fits negative (number_run 0 text).0 then Ok
     (signed negative (number_run 0 text).0, (number_run 0 text).1) else stop IntegerRange start
 
--- whether a minus stands first, and the text behind the sign
-abbrev pub behind_sign : List ℕ → Bool × List ℕ
-behind_sign [] = (false, [])
-behind_sign (c ∷ cs) =
+-- whether the text begins with a minus, and the text after the sign, if any
+abbrev pub after_sign : List ℕ → Bool × List ℕ
+after_sign [] = (false, [])
+after_sign (c ∷ cs) =
     if c == minus then (true, cs) else if c == plus then (false, cs) else (false, c ∷ cs)
 
 unfoldable pub integer_at : List ℕ → Read ℤ
-integer_at text = number_at (behind_sign text).0 text (behind_sign text).1
+integer_at text = number_at (after_sign text).0 text (after_sign text).1
 
--- a bare word, and the text behind it
+-- reads a bare word
 unfoldable pub word_at : List ℕ → Read (List ℕ)
 word_at text =
     if nat_lt atom_limit (prefix_len is_word text) then stop TooLong (drop atom_limit text)
@@ -136,7 +136,7 @@ abbrev pub escape_at : List ℕ → List ℕ → Read ℕ
 escape_at start [] = Err (Syntax, 0)
 escape_at start (e ∷ rest) = escape_as (escaped e) start rest
 
--- whether a character may stand there, where only bytes may or any
+-- whether a character is allowed, where only bytes are, or any
 abbrev pub is_allowed : Bool → ℕ → Bool
 is_allowed only_bytes c = not only_bytes || nat_le c 255
 
@@ -150,7 +150,7 @@ character_at only_bytes (c ∷ cs) =
 abbrev pub marked : Bool → List ℕ → Read (Option ℕ)
 marked only_bytes text = character_at only_bytes text >>= λ x. Ok (Some x.0, x.1)
 
--- the next character behind so many, none at the mark
+-- reads the next quoted character, of which there are this many so far; None at the closing mark
 unfoldable pub next_quoted : Marks → ℕ → List ℕ → Read (Option ℕ)
 next_quoted m count [] = Err (Syntax, 0)
 next_quoted m count (c ∷ text) =
@@ -165,22 +165,26 @@ pushed cs (Some c) text = (true, cs ++ c ∷ [], text)
 unfoldable pub quoted_step : Marks → Step (List ℕ)
 quoted_step m cs text = next_quoted m (length cs) text >>= λ x. Ok (pushed cs x.0 x.1)
 
--- the characters up to the mark
+-- whether a character is ASCII and stands for itself between these quotation marks
+abbrev pub is_plain : ℕ → ℕ → Bool
+is_plain mark c = nat_lt c 128 && (not (c == mark) && not (c == backslash))
+
+-- reads the characters up to the closing mark
 abbrev pub quoted_at : Marks → List ℕ → Read (List ℕ)
 quoted_at m text = all_steps (quoted_step m) [] text
 
--- the text behind two characters, where they stand there
-abbrev pub behind_both : ℕ → ℕ → List ℕ → Option (List ℕ)
-behind_both a b [] = None
-behind_both a b (x ∷ []) = None
-behind_both a b (x ∷ y ∷ ys) = if x == a && y == b then Some ys else None
+-- the text after two characters, None if the text doesn't begin with them
+abbrev pub after_both : ℕ → ℕ → List ℕ → Option (List ℕ)
+after_both a b [] = None
+after_both a b (x ∷ []) = None
+after_both a b (x ∷ y ∷ ys) = if x == a && y == b then Some ys else None
 
--- white space, a comment or the end
+-- whether the text begins with white space or a comment, or is empty
 abbrev pub begins_gap : List ℕ → Bool
 begins_gap [] = true
 begins_gap (c ∷ cs) = is_white_space c || c == percent
 
--- a dot, and what follows it
+-- reads a dot, which a gap or the end has to follow
 abbrev pub dot_at : List ℕ → Result (List ℕ) Fault
 dot_at [] = Err (Syntax, 0)
 dot_at (c ∷ cs) = if c == dot && begins_gap cs then Ok cs else stop Syntax (c ∷ cs)

@@ -7,14 +7,14 @@ use Rattle.std.specs.Str.Parse.{digits_value}
 use Rattle.term_text.specs.Character.{line_feed, percent, plus, minus, backslash, is_white_space, escaped}
 
 mutual
-  -- white space and comments, as much of them as one likes
+  -- any amount of white space and comments
   pub data Gap : List ℕ → List ℕ → Type 0 where
     no_gap : {text : List ℕ} → Gap text text
     white : {c : ℕ} {text rest : List ℕ} → IsTrue (is_white_space c) → Gap text rest
         → Gap (c ∷ text) rest
     comment : {text rest : List ℕ} → Comment text rest → Gap (percent ∷ text) rest
 
-  -- a comment behind its percent sign: up to a line feed
+  -- a comment after its percent sign: up to a line feed
   pub data Comment : List ℕ → List ℕ → Type 0 where
     ended : {text rest : List ℕ} → Gap text rest → Comment (line_feed ∷ text) rest
     passed : {c : ℕ} {text rest : List ℕ} → c ≢ line_feed → Comment text rest
@@ -30,7 +30,7 @@ abbrev pub EndsRun : (ℕ → Bool) → List ℕ → Type 0
 EndsRun p [] = Unit {0}
 EndsRun p (c ∷ text) = p c ≡ false
 
--- as many characters that pass the test as stand there
+-- all characters at the beginning that pass the test
 pub record Run (p : ℕ → Bool) (text run rest : List ℕ) : Type 0 where
   pub whole : text ≡ run ++ rest
   pub each : AllByRecursion (λ c. p c ≡ true) run
@@ -43,7 +43,7 @@ pub record Number (text : List ℕ) (n : ℕ) (rest : List ℕ) : Type 0 where
   pub run : Run is_ascii_digit text digits rest
   pub value : n ≡ digits_value 10 digits
 
--- an integer: a sign or none, directly followed by digits
+-- an integer: an optional sign, directly followed by digits
 pub data Integer : List ℕ → ℤ → List ℕ → Type 0 where
   unsigned : {text rest : List ℕ} {n : ℕ} → Number text n rest → n ≤ 9223372036854775807
       → Integer text (pos n) rest
@@ -52,7 +52,7 @@ pub data Integer : List ℕ → ℤ → List ℕ → Type 0 where
   negative : {text rest : List ℕ} {n : ℕ} → Number text n rest → n ≤ 9223372036854775808
       → Integer (minus ∷ text) (neg_ℤ (pos n)) rest
 
--- the characters up to a mark, each as it is or as an escape
+-- the characters up to a closing mark, each given as itself or as an escape
 pub data Quoted (mark : ℕ) : List ℕ → List ℕ → List ℕ → Type 0 where
   closed : {rest : List ℕ} → Quoted mark (mark ∷ rest) [] rest
   plain : {c : ℕ} {text rest cs : List ℕ} → c ≢ mark → c ≢ backslash → Quoted mark text cs rest

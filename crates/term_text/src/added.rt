@@ -1,8 +1,8 @@
-//! A text that is added to another one.
+//! A text that is appended to another one.
 use std::alloc::{AllocError, Allocator};
 use std::marker::Model;
 
-/// A text that is added behind another one, which stays as it is.
+/// A text that is appended to another one, which stays unchanged in front of it.
 #[derive(Drop)]
 pub struct Added<B: Allocator> {
     bytes: Vec<u8, B>,
@@ -26,7 +26,7 @@ impl<B: Allocator> Model for Added<B> {
 impl<B: Allocator> Added<B> {
     ghost use Rattle.std.specs.Prelude.{◌≡◌, ◌++◌, ◌∷◌, [], OnOk};
 
-    /// Nothing yet, behind these bytes.
+    /// Starts an empty text after these bytes.
     #[tactic(auto, using(crate::proofs::AddedLemmas::nothing_behind))]
     pub fn new(bytes: Vec<u8, B>) -> Self
         ensures front { result.front ≡ bytes.items }
@@ -36,7 +36,7 @@ impl<B: Allocator> Added<B> {
         Added { bytes, start }
     }
 
-    /// Puts a byte at the end.
+    /// Appends a byte.
     #[inline(always)]
     #[tactic(auto, using(crate::proofs::AddedLemmas::more_behind, crate::proofs::AddedLemmas::same_front))]
     pub fn push(&mut self, byte: u8) -> Result<(), AllocError>
@@ -47,7 +47,7 @@ impl<B: Allocator> Added<B> {
         Ok(())
     }
 
-    /// Puts bytes at the end.
+    /// Appends bytes.
     #[inline(always)]
     #[tactic(auto, using(crate::proofs::AddedLemmas::more_behind, crate::proofs::AddedLemmas::same_front))]
     pub fn extend_from_slice(&mut self, bytes: &[u8]) -> Result<(), AllocError>
@@ -57,7 +57,7 @@ impl<B: Allocator> Added<B> {
         self.bytes.extend_from_slice(bytes)
     }
 
-    /// Both texts.
+    /// Returns the text in front followed by what was appended.
     #[tactic(auto, using(crate::proofs::AddedLemmas::both_texts))]
     pub fn whole(self) -> Vec<u8, B>
         ensures { result.items ≡ self.front ++ self.items }
@@ -65,7 +65,7 @@ impl<B: Allocator> Added<B> {
         self.bytes
     }
 
-    /// The text in front.
+    /// Returns the text in front, without what was appended.
     pub fn before(self) -> Vec<u8, B>
         ensures { result.items ≡ self.front }
     {

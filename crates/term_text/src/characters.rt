@@ -3,7 +3,8 @@ ghost use Rattle.std.specs.Prelude.{◌≡◌, ◌==◌, ◌<◌, ◌∷◌, [],
 ghost use Rattle.std.specs.Str.{chars};
 ghost use Rattle.term_text.specs.Character.{EndsAscii};
 
-/// The first character and the text behind it, where that is an ASCII character: it is looked at as a byte.
+/// Returns the first character and the text after it if that character is ASCII, otherwise `None`. Looks at one byte
+/// only.
 #[inline(always)]
 pub fn split_ascii(text: &str) -> Option<(char, &str)>
     ensures { MatchOption result (EndsAscii (chars text.now)) (λ x. (x.0 < 128) × (chars text.now ≡ x.0 ∷ chars x.1.now)) }
@@ -16,7 +17,7 @@ pub fn split_ascii(text: &str) -> Option<(char, &str)>
     }
 }
 
-/// The first character, and the text behind it.
+/// Returns the first character and the text after it, or `None` if the text is empty.
 #[tactic(auto, using(std::proofs::lemmas::Str::chars_past_char))]
 pub fn split_first(text: &str) -> Option<(char, &str)>
     ensures { MatchOption result (chars text.now ≡ []) (λ x. chars text.now ≡ x.0 ∷ chars x.1.now) }
@@ -26,7 +27,7 @@ pub fn split_first(text: &str) -> Option<(char, &str)>
     Some((first, characters.as_str()))
 }
 
-/// How many characters there are.
+/// Returns the number of characters.
 #[tactic(auto, using(std::proofs::lemmas::Str::chars_from_encodes))]
 pub fn count(text: &str) -> usize
     ensures { result ≡ length (chars text.now) }
@@ -34,7 +35,7 @@ pub fn count(text: &str) -> usize
     text.chars().count()
 }
 
-/// Whether there is none.
+/// Returns whether the text has no characters.
 #[tactic(auto, using(crate::proofs::CharacterLemmas::empty_alike))]
 pub fn is_empty(text: &str) -> bool
     ensures { result ≡ (length (chars text.now) == 0) }

@@ -2,31 +2,31 @@
 
 use thiserror::Error;
 
-/// Why a text can't be read, and the byte of the input at which that is met, counted from 0.
+/// Why a text can't be read. All but `Memory` have the byte of the input where the fault is, counted from 0.
 #[derive(Clone, Copy, Debug, PartialEq, Eq, Error)]
 pub enum TextFault {
-    /// No memory was given.
+    /// An allocation failed.
     #[error("out of memory")]
     Memory,
-    /// A term stands on nesting level 256.
+    /// A term is at nesting level 256.
     #[error("at byte {0}: the term is too deep")]
     TooDeep(usize),
-    /// An element, a pair, a character or a byte stands past a limit.
+    /// An element, a pair, a character or a byte exceeds a limit.
     #[error("at byte {0}: the term is too long")]
     TooLong(usize),
-    /// A key stands twice in a map.
+    /// A key occurs twice in a map.
     #[error("at byte {0}: the key stands twice in its map")]
     DuplicateKey(usize),
-    /// What stands there can't follow, or begins nothing, or the text ends too early.
+    /// The text can't go on in this way, nothing begins in this way, or the text ends too early.
     #[error("at byte {0}: syntax error")]
     Syntax(usize),
-    /// What stands there begins no UTF-8.
+    /// The bytes are not UTF-8.
     #[error("at byte {0}: not UTF-8")]
     BadUtf8(usize),
-    /// An integer has more than 64 bits, or is no byte in a binary.
+    /// An integer has more than 64 bits, or is not a byte although it is in a binary.
     #[error("at byte {0}: the integer is out of range")]
     IntegerRange(usize),
-    /// A backslash stands before a character that makes no escape.
+    /// A backslash is followed by a character with which it makes no escape.
     #[error("at byte {0}: unsupported escape")]
     UnsupportedEscape(usize),
 }
@@ -35,7 +35,7 @@ impl TextFault {
     ghost use Rattle.std.specs.Prelude.{◌≡◌};
     ghost use Rattle.term_text.specs.FaultNumbers.{number_of, place_of};
 
-    /// The number that the fault has in what programs print.
+    /// Returns the number, from 1 to 8, that programs print for the fault.
     pub const fn number(self) -> u8
         ensures { result ≡ number_of self }
     {
@@ -51,7 +51,7 @@ impl TextFault {
         }
     }
 
-    /// The byte where the fault is met, counted from 0; want of memory is met nowhere.
+    /// Returns the byte of the input where the fault is, counted from 0, or `None` if memory ran out.
     pub const fn at(self) -> Option<usize>
         ensures { result ≡ place_of self }
     {

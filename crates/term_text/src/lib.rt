@@ -1,27 +1,34 @@
 //! Term text: terms read from text and written as text.
 //!
-//! The contract: `read_terms` answers the terms that a text spells (`Spells`, in `specs/Text.antt`) and refuses any
-//! other text, naming what stands at the place of the refusal (`HasCause`, in `specs/Causes.antt`); `write_term` writes
-//! the one canonical text of a term, `write_readable` one for persons, and `write_binary` the canonical one of a binary
-//! of any size (`canonical` and `readable`, in `specs/Canonical.antt`); the laws `canonical_text_is_read_back` and
+//! The contract: `read_terms` returns the terms that a text spells (`Spells`, in `specs/Text.antt`). It rejects any
+//! other text, with the place and the cause there (`HasCause`, in `specs/Causes.antt`). `write_term` writes the one
+//! canonical text of a term, `write_readable` a text for people, and `write_binary` the canonical text of a binary of
+//! any size (`canonical` and `readable`, in `specs/Canonical.antt`). The laws `canonical_text_is_read_back` and
 //! `readable_text_is_read_back` say that either text spells its term and no other.
 //!
 //! - Tokens: `token.rt`, over `characters.rt` and the characters of `specs/Character.antt`. What a token spells is a
-//!   relation (`specs/Tokens.antt`), and what reading it from the left gives a function (`specs/TokenReading.antt`);
-//!   that they agree: `proofs/Tokens.antt`, `proofs/Words.antt`. Why and where reading stops: `stop.rt`.
-//! - Terms, by their tokens: `read.rt` gives what `text_at` of `specs/Reading.antt` gives; short words, integers and the
-//!   first elements of a row, which are made where they stand: `proofs/Short.antt`. What is read is spelled so:
-//!   `proofs/Sound.antt`; what is spelled is read so: `proofs/Whole.antt`; each term that is made is within its limits:
-//!   `proofs/Within.antt`, `proofs/Constructed.antt`.
-//! - Texts of bytes: `text.rt`. Refusals, by the byte where they are met: `fault.rt`; that what one names stands there:
+//!   relation (`specs/Tokens.antt`). What reading it from the left gives is a function (`specs/TokenReading.antt`).
+//!   `proofs/Tokens.antt` and `proofs/Words.antt` prove that they agree, `proofs/QuotedRuns.antt` that quoted characters
+//!   that stand for themselves may be taken as one slice. Why and where reading stops: `stop.rt`.
+//! - Terms, from their tokens: `read.rt`, over `leaf.rt` for terms without parts and `pairs.rt` for the pairs of a
+//!   map, returns what `text_at` of `specs/Reading.antt` gives. `proofs/Short.antt` covers short words, integers and
+//!   the first elements of a row, which have a fast path, and `proofs/Places.antt` a map of few pairs, which is
+//!   sorted as it is read, without a tree. What is read is spelled so: `proofs/Sound.antt`. What is spelled is read
+//!   so: `proofs/Whole.antt`. Each term that is made is within its limits: `proofs/Within.antt`,
+//!   `proofs/Constructed.antt`.
+//! - Texts of bytes: `text.rt`. Faults, with the byte where they are: `fault.rt`. A fault's cause is at its place:
 //!   `proofs/Blames.antt`, `proofs/BlamesTerms.antt`.
-//! - Writing: `write.rt`, over `added.rt`. The laws: `law.rt`, proved in `proofs/Written.antt` and `proofs/ReadBack.antt`.
+//! - Writing: `write.rt`, over `added.rt`. The laws: `law.rt`, proved in `proofs/Written.antt` and
+//!   `proofs/ReadBack.antt`.
 #![tactic(auto)]
 
 mod added;
+mod byte_table;
 mod characters;
 mod fault;
 mod law;
+mod leaf;
+mod pairs;
 mod read;
 mod stop;
 mod text;

@@ -2,37 +2,32 @@
 ghost use Rattle.std.specs.Prelude.{◌≡◌, true, [], ◌^◌, ◌++◌, ◌-◌, ◌<◌, ◌≤◌, length, IfOk, IfSome, MatchResult, OnOk, Ok, option_map};
 ghost use Rattle.std.specs.Prelude.{map as each};
 ghost use Rattle.term_core.specs.Datum.{cells, items_of, entries_of};
-ghost use Rattle.std.specs.List.{AllByRecursion};
-ghost use Rattle.std.specs.Char.{is_ascii_digit};
 ghost use Rattle.std.specs.Str.{chars};
-ghost use Rattle.std.specs.Map.{keys_of};
-ghost use Rattle.std.specs.List.Sorted.{IsStrictlySortedBy};
-ghost use Rattle.term_core.specs.Order.{datum_cmp};
-ghost use Rattle.term_text.specs.Text.{code_point};
-ghost use Rattle.term_core.specs.Datum.Datum.{atom, tuple, binary, map, nil};
+ghost use Rattle.term_core.specs.Datum.Datum.{tuple, nil};
+ghost use Rattle.term_core.specs.MapPairs.{AreRising};
 ghost use Rattle.term_core.specs.ShortRow.{row_items};
 ghost use Rattle.term_core.specs.Term.{tail_of};
-ghost use Rattle.term_text.specs.Character.{close_brace};
-ghost use Rattle.term_text.specs.TokenReading.{Gives, Fails, begins, is_allowed, all_steps};
-ghost use Rattle.term_text.specs.Reading.{IsWithin, AreElements, string_marks, enter, behind_comma, elements_at, elements_from, term_at, tail_at, tuple_at, list_at, list_end, string_at, word_term_at, quoted_atom_at, integer_term_at, binary_at, segments_at, segment_at, byte_at, form_at, byte_marks, one_byte_at, pair_at, map_at, separated, sentence_at, next_at, text_at};
+ghost use Rattle.term_text.specs.Text.{code_point};
+ghost use Rattle.term_text.specs.TokenReading.{Gives, Fails, all_steps};
+ghost use Rattle.term_text.specs.Reading.{IsWithin, AreElements, string_marks, enter, elements_at, elements_from, pairs_from, term_at, tail_at, tuple_at, list_at, list_end, string_at, form_at, pair_at, map_at, separated, sentence_at, next_at, text_at};
 
 use crate::characters::{is_empty, split_ascii};
+use crate::leaf::{binary, integer_term, plain_integer, quoted_atom, short_word, word_term};
+use crate::pairs::{Pairs, Tree, in_order, in_tree, map_of, place_of};
 use crate::stop::{Cause, Stop};
 use crate::token::{
-    Marks, Opening, after_gap, begin, behind, behind_both, dot, expect, expect_both, integer,
-    letter, plain_number, quoted, stop, word,
+    Marks, Opening, after_comma, after_gap, begin, behind, dot, expect, expect_both, quoted, stop,
 };
 use std::alloc::{AllocError, Allocator};
-use std::collections::BTreeMap;
-use term_build::map_of_pairs;
-use term_core::{
-    MAX_BINARY, MAX_CHARACTERS, MAX_DEPTH, MAX_LIST, MAX_MAP, MAX_TUPLE, ShortRow, Term,
-};
+use term_core::{MAX_DEPTH, MAX_LIST, MAX_MAP, MAX_TUPLE, ShortRow, Term};
 
-/// The most elements that stand in a `ShortRow`.
+/// The largest number of elements of a `ShortRow`.
 const FEW: usize = 4;
+/// The largest number of pairs of a map that is read without a tree.
+const FEW_PAIRS: usize = 16;
 
-/// What begins the term that has to stand there, where so many levels of nesting and so many terms are left.
+/// Reads how a term begins, where one has to begin. Stops with a fault if none begins, or if no nesting level is left
+/// (`levels`), or no room for one more term (`room`).
 #[tactic(auto, unfolding(crate::specs::Reading::enter))]
 #[inline(always)]
 fn enter(levels: u8, room: usize, text: &str) -> Result<(Opening, &str), Stop>
@@ -51,107 +46,7 @@ fn enter(levels: u8, room: usize, text: &str) -> Result<(Opening, &str), Stop>
     Ok((opening, rest))
 }
 
-/// The text behind a comma, where one stands behind the gap, else the text behind the gap.
-#[inline(always)]
-fn behind_comma(text: &str) -> (bool, &str)
-    ensures { (result.0, chars result.1.now) ≡ behind_comma (chars text.now) }
-{
-    let text = after_gap(text);
-    match behind(',', text) {
-        Some(rest) => (true, after_gap(rest)),
-        None => (false, text),
-    }
-}
-
-/// An integer as a term.
-#[tactic(auto, unfolding(crate::specs::Reading::integer_term_at))]
-#[inline(always)]
-fn integer_term<A: Allocator>(text: &str) -> Result<(Term<A>, &str), Stop>
-    ensures { Gives (λ x. (x.0, chars x.1.now)) result (integer_term_at (chars text.now)) }
-{
-    let (value, rest) = integer(text)?;
-    Ok((Term::int(value), rest))
-}
-
-/// An integer without a sign, where 63 bits hold it.
-#[tactic(auto, unfolding(crate::specs::Reading::integer_term_at))]
-#[inline(always)]
-fn plain_integer<A: Allocator>(text: &str) -> Option<(Term<A>, &str)>
-    requires { begins is_ascii_digit (chars text.now) ≡ true }
-    ensures { IfSome result (λ x. integer_term_at (chars text.now) ≡ Ok (x.0, chars x.1.now)) }
-{
-    let (value, rest) = plain_number(text)?;
-    Some((Term::int(value), rest))
-}
-
-/// An atom of these characters.
-fn atom_of<A: Allocator>(alloc: A, characters: Vec<char, A>) -> Result<Term<A>, Stop>
-    requires { IsWithin (atom characters.items) }
-    ensures { Gives (λ t. t) result (Ok (atom characters.items)) }
-{
-    match Term::from_characters(alloc, characters) {
-        Ok(atom) => Ok(atom),
-        Err(refused) => Err(Stop::from(refused.fault.alloc_error())),
-    }
-}
-
-/// A bare word of one to three letters, where one stands there: an atom that takes no memory.
-#[tactic(auto, using(crate::proofs::Short::word_of_one, crate::proofs::Short::word_of_two, crate::proofs::Short::word_of_three))]
-#[inline(always)]
-fn short_word<A: Allocator>(text: &str) -> Option<(Term<A>, &str)>
-    ensures { IfSome result (λ x. word_term_at (chars text.now) ≡ Ok (x.0, chars x.1.now)) }
-{
-    let (first, rest) = letter(text)?;
-    let Some((second, behind)) = letter(rest) else {
-        return Some((Term::short_atom(&[first])?, rest));
-    };
-    let Some((third, end)) = letter(behind) else {
-        return Some((Term::short_atom(&[first, second])?, behind));
-    };
-    match letter(end) {
-        Some(_) => None,
-        None => Some((Term::short_atom(&[first, second, third])?, end)),
-    }
-}
-
-/// A bare word as a term.
-#[inline(always)]
-fn word_term<A: Allocator + Copy>(alloc: A, text: &str) -> Result<(Term<A>, &str), Stop>
-    ensures { Gives (λ x. (x.0, chars x.1.now)) result (word_term_at (chars text.now)) }
-{
-    match short_word(text) {
-        Some(word) => Ok(word),
-        None => long_word(alloc, text),
-    }
-}
-
-/// A bare word of any length as a term.
-#[tactic(auto, unfolding(crate::specs::Reading::word_term_at))]
-#[inline(never)]
-fn long_word<A: Allocator + Copy>(alloc: A, text: &str) -> Result<(Term<A>, &str), Stop>
-    ensures { Gives (λ x. (x.0, chars x.1.now)) result (word_term_at (chars text.now)) }
-{
-    let (characters, rest) = word(alloc, text)?;
-    Ok((atom_of(alloc, characters)?, rest))
-}
-
-/// A quoted atom behind its opening mark.
-#[tactic(auto, unfolding(crate::specs::Reading::quoted_atom_at))]
-#[inline(never)]
-fn quoted_atom<A: Allocator + Copy>(alloc: A, text: &str) -> Result<(Term<A>, &str), Stop>
-    ensures { Gives (λ x. (x.0, chars x.1.now)) result (quoted_atom_at (chars text.now)) }
-{
-    let marks = Marks {
-        mark: '\'',
-        room: MAX_CHARACTERS,
-        past: Cause::TooLong,
-        only_bytes: false,
-    };
-    let (characters, rest) = quoted(alloc, marks, text)?;
-    Ok((atom_of(alloc, characters)?, rest))
-}
-
-/// The list of these elements, which end in this tail or in none.
+/// Makes the list of these elements, with this tail or `[]`.
 fn list_of<A: Allocator>(
     alloc: A,
     elements: Vec<Term<A>, A>,
@@ -166,8 +61,8 @@ fn list_of<A: Allocator>(
     }
 }
 
-/// A list that begins with these elements and goes on with a string, behind its opening mark. Its characters have so
-/// many levels left.
+/// Reads a string, after its opening mark, that continues a list of these elements. Its characters have `levels`
+/// nesting levels left.
 #[tactic(auto, unfolding(crate::specs::Reading::string_at))]
 #[inline(never)]
 fn string<A: Allocator + Copy>(
@@ -185,7 +80,8 @@ fn string<A: Allocator + Copy>(
     Ok((list_of(alloc, elements, None)?, rest))
 }
 
-/// How a string is read behind so many elements of its list, where its characters have so many levels left.
+/// Returns how a string is read that continues a list of `before` elements, and whose characters have `levels` levels
+/// left.
 fn string_marks(levels: u8, before: usize) -> Marks
     requires { before < 2 ^ 64 }
     ensures { result ≡ string_marks levels before }
@@ -203,7 +99,7 @@ fn string_marks(levels: u8, before: usize) -> Marks
     }
 }
 
-/// These elements, and the characters behind them.
+/// Returns these elements followed by the characters as integers.
 fn with_characters<A: Allocator>(
     mut elements: Vec<Term<A>, A>,
     characters: &[char],
@@ -216,148 +112,7 @@ fn with_characters<A: Allocator>(
     Ok(elements)
 }
 
-/// A byte of a binary, written as an integer.
-#[tactic(auto, unfolding(crate::specs::Reading::byte_at))]
-fn byte(text: &str) -> Result<(u8, &str), Stop>
-    ensures { Gives (λ x. (x.0, chars x.1.now)) result (byte_at (chars text.now)) }
-{
-    let (value, rest) = integer(text)?;
-    match u8::try_from(value) {
-        Ok(byte) => Ok((byte, rest)),
-        Err(_) => Err(stop(Cause::IntegerRange, text)),
-    }
-}
-
-/// These bytes, and characters that are bytes behind them.
-fn with_bytes<A: Allocator>(
-    bytes: Vec<u8, A>,
-    characters: &[char],
-) -> Result<Vec<u8, A>, AllocError>
-    requires { AllByRecursion (λ c. is_allowed true c ≡ true) characters.now }
-    ensures { IfOk result (λ all. all.items ≡ bytes.items ++ characters.now) }
-{
-    let mut bytes = bytes;
-    for character in characters {
-        bytes.push(*character as u32 as u8)?;
-    }
-    Ok(bytes)
-}
-
-/// One more segment of a binary behind these bytes: an integer or a string.
-#[tactic(auto, unfolding(crate::specs::Reading::segment_at))]
-fn segment<A: Allocator + Copy>(
-    alloc: A,
-    bytes: Vec<u8, A>,
-    text: &str,
-) -> Result<(Vec<u8, A>, &str), Stop>
-    ensures { Gives (λ x. (x.0.items, chars x.1.now)) result (segment_at bytes.items (chars text.now)) }
-{
-    match begin(text) {
-        Some((Opening::Integer, _)) => one_byte(bytes, text),
-        Some((Opening::String, rest)) => {
-            let marks = byte_marks(bytes.len());
-            let (characters, rest) = quoted(alloc, marks, rest)?;
-            Ok((with_bytes(bytes, characters.as_slice())?, rest))
-        }
-        _ => Err(stop(Cause::Syntax, text)),
-    }
-}
-
-/// How a string is read behind so many bytes of a binary.
-fn byte_marks(before: usize) -> Marks
-    ensures { result ≡ byte_marks before }
-{
-    Marks {
-        mark: '"',
-        room: MAX_BINARY.saturating_sub(before),
-        past: Cause::TooLong,
-        only_bytes: true,
-    }
-}
-
-/// One more byte behind these.
-fn one_byte<A: Allocator>(bytes: Vec<u8, A>, text: &str) -> Result<(Vec<u8, A>, &str), Stop>
-    ensures { Gives (λ x. (x.0.items, chars x.1.now)) result (one_byte_at bytes.items (chars text.now)) }
-{
-    let mut bytes = bytes;
-    if bytes.len() == MAX_BINARY {
-        return Err(stop(Cause::TooLong, text));
-    }
-    let (byte, rest) = byte(text)?;
-    bytes.push(byte)?;
-    Ok((bytes, rest))
-}
-
-/// One or more segments with commas between, and the text behind them and the gap.
-fn segments<A: Allocator + Copy>(alloc: A, text: &str) -> Result<(Vec<u8, A>, &str), Stop>
-    ensures { Gives (λ x. (x.0.items, chars x.1.now)) result (segments_at [] (chars text.now)) }
-{
-    let mut bytes = Vec::new(alloc);
-    let mut rest = text;
-    loop {
-        let (more, after) = segment(alloc, bytes, rest)?;
-        bytes = more;
-        let (goes_on, after) = behind_comma(after);
-        rest = after;
-        if !goes_on {
-            return Ok((bytes, rest));
-        }
-    }
-}
-
-/// A binary of these bytes.
-fn binary_of<A: Allocator>(alloc: A, bytes: Vec<u8, A>) -> Result<Term<A>, Stop>
-    requires { IsWithin (binary bytes.items) }
-    ensures { Gives (λ t. t) result (Ok (binary bytes.items)) }
-{
-    match Term::binary(alloc, bytes) {
-        Ok(binary) => Ok(binary),
-        Err(refused) => Err(Stop::from(refused.fault.alloc_error())),
-    }
-}
-
-/// A binary, behind its opening.
-#[tactic(auto, unfolding(crate::specs::Reading::binary_at))]
-#[inline(never)]
-fn binary<A: Allocator + Copy>(alloc: A, text: &str) -> Result<(Term<A>, &str), Stop>
-    ensures { Gives (λ x. (x.0, chars x.1.now)) result (binary_at (chars text.now)) }
-{
-    let text = after_gap(text);
-    if let Some(rest) = behind_both('>', '>', text) {
-        return Ok((binary_of(alloc, Vec::new(alloc))?, rest));
-    }
-    let (bytes, rest) = segments(alloc, text)?;
-    let rest = expect_both('>', '>', rest)?;
-    Ok((binary_of(alloc, bytes)?, rest))
-}
-
-/// The pairs of a map so far.
-type Pairs<A> = BTreeMap<Term<A>, Term<A>, A>;
-
-/// The pairs by rising key.
-fn in_order<A: Allocator>(
-    alloc: A,
-    pairs: Pairs<A>,
-) -> Result<Vec<(Term<A>, Term<A>), A>, AllocError>
-    ensures items { IfOk result (λ v. v.items ≡ pairs.entries) }
-    ensures ordered { IfOk result (λ v. IsStrictlySortedBy datum_cmp (keys_of v.items)) }
-{
-    pairs.into_iter().collect(alloc)
-}
-
-/// A map of these pairs.
-fn map_of<A: Allocator + Copy>(alloc: A, pairs: Pairs<A>) -> Result<Term<A>, Stop>
-    requires { IsWithin (map (entries_of pairs.entries)) }
-    ensures { Gives (λ t. t) result (Ok (map (entries_of pairs.entries))) }
-{
-    let pairs = in_order(alloc, pairs)?;
-    match map_of_pairs(alloc, pairs) {
-        Ok(map) => Ok(map),
-        Err(refused) => Err(Stop::from(refused.fault.alloc_error())),
-    }
-}
-
-/// The tuple of one to four elements.
+/// Makes the tuple of one to four elements, which is within the limits.
 #[inline(always)]
 fn short_tuple_of<A: Allocator>(alloc: A, elements: ShortRow<A>) -> Result<Term<A>, Stop>
     requires { IsWithin (tuple (items_of (row_items elements))) }
@@ -369,7 +124,7 @@ fn short_tuple_of<A: Allocator>(alloc: A, elements: ShortRow<A>) -> Result<Term<
     }
 }
 
-/// The list of one to four elements.
+/// Makes the list of one to four elements, which is within the limits.
 #[inline(always)]
 fn short_list_of<A: Allocator>(alloc: A, elements: ShortRow<A>) -> Result<Term<A>, Stop>
     requires { IsWithin (cells (row_items elements) nil) }
@@ -381,7 +136,7 @@ fn short_list_of<A: Allocator>(alloc: A, elements: ShortRow<A>) -> Result<Term<A
     }
 }
 
-/// The elements of a row in a vector, where more follow.
+/// Moves the elements of a row into a vector, so that more can be appended.
 #[inline(never)]
 fn in_vector<A: Allocator>(alloc: A, row: ShortRow<A>) -> Result<Vec<Term<A>, A>, AllocError>
     ensures { IfOk result (λ all. all.items ≡ row_items row) }
@@ -394,7 +149,7 @@ fn in_vector<A: Allocator>(alloc: A, row: ShortRow<A>) -> Result<Vec<Term<A>, A>
     }
 }
 
-/// A tuple of these elements, which are none or many.
+/// Makes the tuple of these elements, which is within the limits. It is called with none, or with more than fit a row.
 fn tuple_of<A: Allocator>(alloc: A, elements: Vec<Term<A>, A>) -> Result<Term<A>, Stop>
     requires { IsWithin (tuple (items_of elements.items)) }
     ensures { Gives (λ t. t) result (Ok (tuple (items_of elements.items))) }
@@ -405,7 +160,7 @@ fn tuple_of<A: Allocator>(alloc: A, elements: Vec<Term<A>, A>) -> Result<Term<A>
     }
 }
 
-/// A term that begins with this opening, the text behind it, where its parts have so many levels left.
+/// Reads a term from the text after its opening. Its parts have `levels` nesting levels left.
 #[cycle(term)]
 fn form<A: Allocator + Copy>(
     alloc: A,
@@ -429,10 +184,16 @@ fn form<A: Allocator + Copy>(
     }
 }
 
-/// An integer without a sign or a short word, where one of these may stand there and does: it takes no memory.
+/// Reads an integer without a sign or a short word, neither of which needs an allocation. Returns `None` if there is
+/// neither, or no level or room is left.
 #[tactic(auto, using(crate::proofs::Short::plain_word, crate::proofs::Short::plain_integer, crate::proofs::Short::begun))]
 #[inline(always)]
-fn plain<A: Allocator>(levels: u8, room: usize, text: &str) -> Option<(Term<A>, &str)>
+fn plain<A: Allocator + Copy>(
+    alloc: A,
+    levels: u8,
+    room: usize,
+    text: &str,
+) -> Option<(Term<A>, &str)>
     ensures { IfSome result (λ x. term_at levels room (chars text.now) ≡ Ok (x.0, chars x.1.now)) }
 {
     if levels == 0 {
@@ -446,12 +207,12 @@ fn plain<A: Allocator>(levels: u8, room: usize, text: &str) -> Option<(Term<A>, 
         return plain_integer(text);
     }
     if first.is_ascii_lowercase() {
-        return short_word(text);
+        return short_word(alloc, text);
     }
     None
 }
 
-/// The text behind a brace, where a tuple may stand there and one begins.
+/// Returns the text after an opening brace. Returns `None` if no tuple begins, or no level or room is left.
 #[tactic(auto, using(crate::proofs::Short::begins_tuple))]
 #[inline(always)]
 fn brace(levels: u8, room: usize, text: &str) -> Option<&str>
@@ -468,7 +229,7 @@ fn brace(levels: u8, room: usize, text: &str) -> Option<&str>
     behind('{', text)
 }
 
-/// A term, where so many levels are left for it and so many terms.
+/// Reads a term, with `levels` nesting levels left for it and room for `room` terms.
 #[cycle(term)]
 #[inline(always)]
 fn term<A: Allocator + Copy>(
@@ -479,13 +240,13 @@ fn term<A: Allocator + Copy>(
 ) -> Result<(Term<A>, &str), Stop>
     ensures { Gives (λ x. (x.0, chars x.1.now)) result (term_at levels room (chars text.now)) }
 {
-    match plain(levels, room, text) {
+    match plain(alloc, levels, room, text) {
         Some(found) => Ok(found),
         None => any_term(alloc, levels, room, text),
     }
 }
 
-/// The same for any term.
+/// Reads a term of any kind, with `levels` nesting levels left for it and room for `room` terms.
 #[cycle(term)]
 #[inline(never)]
 fn any_term<A: Allocator + Copy>(
@@ -503,7 +264,7 @@ fn any_term<A: Allocator + Copy>(
     form(alloc, levels - 1, opening, rest)
 }
 
-/// The list of these elements and the tail that stands there.
+/// Reads the tail of a list, and makes the list of these elements and that tail.
 #[cycle(term)]
 #[inline(never)]
 fn tail<A: Allocator + Copy>(
@@ -527,7 +288,8 @@ fn tail<A: Allocator + Copy>(
     }
 }
 
-/// One or more terms with commas between, behind these, and the text behind them and the gap.
+/// Reads one or more terms separated by commas, and appends them to these elements. Returns the text after them and the
+/// gap.
 #[cycle(term)]
 #[inline(never)]
 fn elements<A: Allocator + Copy>(
@@ -546,7 +308,7 @@ fn elements<A: Allocator + Copy>(
         let room = limit.saturating_sub(elements.len());
         let (element, after) = term(alloc, levels, room, rest)?;
         elements.push(element)?;
-        let (goes_on, after) = behind_comma(after);
+        let (goes_on, after) = after_comma(after);
         rest = after;
         if !goes_on {
             return Ok((elements, rest));
@@ -554,7 +316,8 @@ fn elements<A: Allocator + Copy>(
     }
 }
 
-/// One to four terms with commas between, whether more follow, and the text behind them and the comma or the gap.
+/// Reads one to four terms separated by commas. Returns them, whether more follow, and the text after them and the
+/// comma or the gap.
 #[cycle(term)]
 #[inline(always)]
 fn few_elements<A: Allocator + Copy>(
@@ -569,7 +332,7 @@ fn few_elements<A: Allocator + Copy>(
         (λ stop. Fails stop (elements_at (term_at levels) limit [] (chars text.now))) }
 {
     let (first, after) = term(alloc, levels, limit, text)?;
-    let (mut goes_on, mut rest) = behind_comma(after);
+    let (mut goes_on, mut rest) = after_comma(after);
     let mut few = ShortRow::One([first]);
     for count in 1..FEW {
         if !goes_on {
@@ -578,12 +341,12 @@ fn few_elements<A: Allocator + Copy>(
         let room = limit.saturating_sub(count);
         let (element, after) = term(alloc, levels, room, rest)?;
         few = few.with(element);
-        (goes_on, rest) = behind_comma(after);
+        (goes_on, rest) = after_comma(after);
     }
     Ok((few, goes_on, rest))
 }
 
-/// A tuple, behind its opening.
+/// Reads a tuple, after its opening.
 #[cycle(term)]
 #[tactic(auto, unfolding(crate::specs::Reading::tuple_at))]
 #[inline(never)]
@@ -606,7 +369,7 @@ fn tuple<A: Allocator + Copy>(alloc: A, levels: u8, text: &str) -> Result<(Term<
     Ok((short_tuple_of(alloc, few)?, rest))
 }
 
-/// A list, behind its opening.
+/// Reads a list, after its opening.
 #[cycle(term)]
 #[tactic(auto, unfolding(crate::specs::Reading::list_at))]
 #[inline(never)]
@@ -628,7 +391,7 @@ fn list<A: Allocator + Copy>(alloc: A, levels: u8, text: &str) -> Result<(Term<A
     short_list_end(alloc, levels, few, rest)
 }
 
-/// Behind one to four elements of a list: its tail, where a bar stands there, and its end.
+/// Reads the end of a list after one to four elements: a bar and a tail, if any, and the closing bracket.
 #[cycle(term)]
 fn short_list_end<A: Allocator + Copy>(
     alloc: A,
@@ -647,7 +410,7 @@ fn short_list_end<A: Allocator + Copy>(
     }
 }
 
-/// A list that begins with these elements, behind the opening of its last part.
+/// Reads the rest of a list that begins with these elements, after the opening bracket of a tail.
 #[cycle(term)]
 #[tactic(auto, unfolding(crate::specs::Reading::list_at))]
 #[inline(never)]
@@ -670,7 +433,7 @@ fn more_of_list<A: Allocator + Copy>(
     list_end(alloc, levels, elements, rest)
 }
 
-/// Behind the elements of a list: its tail, where a bar stands there, and its end.
+/// Reads the end of a list after its elements: a bar and a tail, if any, and the closing bracket.
 #[cycle(term)]
 #[tactic(auto, unfolding(crate::specs::Reading::list_end))]
 #[inline(never)]
@@ -694,15 +457,71 @@ fn list_end<A: Allocator + Copy>(
     Ok((list_of(alloc, elements, None)?, rest))
 }
 
-/// One more pair behind these.
+/// Reads one more pair and adds it to these, which are few.
+#[cycle(term)]
+#[tactic(auto, unfolding(crate::specs::Reading::pair_at))]
+#[inline(always)]
+fn few_pair<A: Allocator + Copy>(
+    alloc: A,
+    levels: u8,
+    few: Pairs<A>,
+    start: &str,
+) -> Result<(Pairs<A>, &str), Stop>
+    requires { AreRising (entries_of few.items) }
+    ensures value { Gives (λ x. (x.0.items, chars x.1.now)) result
+        (pair_at (term_at levels) few.items (chars start.now)) }
+    ensures rising { IfOk result (λ x. AreRising (entries_of x.0.items)) }
+{
+    let mut few = few;
+    let room = MAX_MAP.saturating_sub(few.len());
+    let (key, rest) = term(alloc, levels, room, start)?;
+    let Some(place) = place_of(few.as_slice(), &key) else {
+        return Err(stop(Cause::DuplicateKey, start));
+    };
+    let rest = expect_both('=', '>', after_gap(rest))?;
+    let (value, rest) = term(alloc, levels, 1, after_gap(rest))?;
+    few.insert(place, (key, value))?;
+    Ok((few, rest))
+}
+
+/// Reads one to sixteen pairs separated by commas. Returns them, whether more follow, and the text after them and the
+/// comma or the gap.
+#[cycle(term)]
+#[inline(never)]
+fn few_pairs<A: Allocator + Copy>(
+    alloc: A,
+    levels: u8,
+    text: &str,
+) -> Result<(Pairs<A>, bool, &str), Stop>
+    ensures value { MatchResult result
+        (λ x. pairs_from (term_at levels) x.1 x.0.items (chars x.2.now)
+        ≡ all_steps (separated (pair_at (term_at levels))) [] (chars text.now))
+        (λ stop. Fails stop (all_steps (separated (pair_at (term_at levels))) [] (chars text.now))) }
+    ensures rising { IfOk result (λ x. AreRising (entries_of x.0.items)) }
+{
+    let mut pairs = Vec::new(alloc);
+    let mut rest = text;
+    let mut goes_on = true;
+    for _read in 0..FEW_PAIRS {
+        if !goes_on {
+            return Ok((pairs, false, rest));
+        }
+        let (more, after) = few_pair(alloc, levels, pairs, rest)?;
+        pairs = more;
+        (goes_on, rest) = after_comma(after);
+    }
+    Ok((pairs, goes_on, rest))
+}
+
+/// Reads one more pair and adds it to these.
 #[cycle(term)]
 #[tactic(auto, unfolding(crate::specs::Reading::pair_at))]
 fn pair<A: Allocator + Copy>(
     alloc: A,
     levels: u8,
-    pairs: Pairs<A>,
+    pairs: Tree<A>,
     text: &str,
-) -> Result<(Pairs<A>, &str), Stop>
+) -> Result<(Tree<A>, &str), Stop>
     ensures { Gives (λ x. (x.0.entries, chars x.1.now)) result
         (pair_at (term_at levels) pairs.entries (chars text.now)) }
 {
@@ -718,19 +537,24 @@ fn pair<A: Allocator + Copy>(
     Ok((pairs, rest))
 }
 
-/// One or more pairs with commas between, and the text behind them and the gap.
+/// Reads one or more pairs separated by commas and adds them to these. Returns them and the text after them and the gap.
 #[cycle(term)]
 #[inline(never)]
-fn pairs<A: Allocator + Copy>(alloc: A, levels: u8, text: &str) -> Result<(Pairs<A>, &str), Stop>
+fn more_pairs<A: Allocator + Copy>(
+    alloc: A,
+    levels: u8,
+    pairs: Tree<A>,
+    text: &str,
+) -> Result<(Tree<A>, &str), Stop>
     ensures { Gives (λ x. (x.0.entries, chars x.1.now)) result
-        (all_steps (separated (pair_at (term_at levels))) [] (chars text.now)) }
+        (all_steps (separated (pair_at (term_at levels))) pairs.entries (chars text.now)) }
 {
-    let mut pairs = BTreeMap::new(alloc);
+    let mut pairs = pairs;
     let mut rest = text;
     loop {
         let (more, after) = pair(alloc, levels, pairs, rest)?;
         pairs = more;
-        let (goes_on, after) = behind_comma(after);
+        let (goes_on, after) = after_comma(after);
         rest = after;
         if !goes_on {
             return Ok((pairs, rest));
@@ -738,7 +562,25 @@ fn pairs<A: Allocator + Copy>(alloc: A, levels: u8, text: &str) -> Result<(Pairs
     }
 }
 
-/// A map, behind its opening.
+/// Reads one or more pairs separated by commas. Returns them in ascending key order, and the text after them and the
+/// gap.
+#[cycle(term)]
+#[inline(always)]
+fn pairs<A: Allocator + Copy>(alloc: A, levels: u8, text: &str) -> Result<(Pairs<A>, &str), Stop>
+    ensures value { Gives (λ x. (x.0.items, chars x.1.now)) result
+        (all_steps (separated (pair_at (term_at levels))) [] (chars text.now)) }
+    ensures rising { IfOk result (λ x. AreRising (entries_of x.0.items)) }
+{
+    let (few, goes_on, rest) = few_pairs(alloc, levels, text)?;
+    if !goes_on {
+        return Ok((few, rest));
+    }
+    let many = in_tree(alloc, few)?;
+    let (more, rest) = more_pairs(alloc, levels, many, rest)?;
+    Ok((in_order(alloc, more)?, rest))
+}
+
+/// Reads a map, after its opening.
 #[cycle(term)]
 #[tactic(auto, unfolding(crate::specs::Reading::map_at))]
 #[inline(never)]
@@ -748,14 +590,14 @@ fn map<A: Allocator + Copy>(alloc: A, levels: u8, text: &str) -> Result<(Term<A>
 {
     let text = after_gap(text);
     if let Some(rest) = behind('}', text) {
-        return Ok((map_of(alloc, BTreeMap::new(alloc))?, rest));
+        return Ok((map_of(alloc, Vec::new(alloc))?, rest));
     }
     let (pairs, rest) = pairs(alloc, levels, text)?;
     let rest = expect('}', rest)?;
     Ok((map_of(alloc, pairs)?, rest))
 }
 
-/// A term and its dot.
+/// Reads a term and its dot.
 #[tactic(auto, unfolding(crate::specs::Reading::sentence_at))]
 fn sentence<A: Allocator + Copy>(alloc: A, text: &str) -> Result<(Term<A>, &str), Stop>
     ensures { Gives (λ x. (x.0, chars x.1.now)) result (sentence_at (chars text.now)) }
@@ -765,7 +607,7 @@ fn sentence<A: Allocator + Copy>(alloc: A, text: &str) -> Result<(Term<A>, &str)
     Ok((term, rest))
 }
 
-/// The next term of a text and the text behind its dot, none where no more stand there.
+/// Reads the next term of a text. Returns it and the text after its dot, or `None` if only a gap remains.
 #[tactic(auto, using(crate::proofs::Readers::next_fails, crate::proofs::Readers::next_is, crate::proofs::Readers::next_none))]
 pub fn next<A: Allocator + Copy>(alloc: A, text: &str) -> Result<Option<(Term<A>, &str)>, Stop>
     ensures { Gives (option_map (λ x. (x.0, chars x.1.now))) result (next_at (chars text.now)) }
@@ -778,7 +620,7 @@ pub fn next<A: Allocator + Copy>(alloc: A, text: &str) -> Result<Option<(Term<A>
     Ok(Some((term, rest)))
 }
 
-/// All terms of a text, each followed by a dot.
+/// Reads all terms of a text, each followed by a dot.
 pub fn terms<A: Allocator + Copy>(alloc: A, text: &str) -> Result<Vec<Term<A>, A>, Stop>
     ensures { Gives (λ v. v.items) result (text_at (chars text.now)) }
 {

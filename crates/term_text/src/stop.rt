@@ -15,7 +15,8 @@ pub enum Cause {
     UnsupportedEscape,
 }
 
-/// Why reading stops: for want of memory, or at a place that is counted in the characters from there to the end.
+/// Why reading stops: memory ran out, or there is a fault. A fault's place is the number of characters from there to
+/// the end.
 #[derive(Clone, Copy)]
 pub enum Stop {
     Memory,

@@ -17,7 +17,7 @@ use std::alloc::Allocator;
 use std::str;
 use term_core::Term;
 
-/// How many bytes the first so many characters of a text take.
+/// Returns the number of bytes of the first `characters` characters of a text.
 fn byte_count(text: &str, characters: usize) -> usize
     ensures { result ≡ length (encode_utf8_all (take characters (chars text.now))) }
 {
@@ -31,7 +31,7 @@ fn byte_count(text: &str, characters: usize) -> usize
     text.len() - rest.len()
 }
 
-/// Why reading a text stopped, by the byte where it did.
+/// Returns the fault for a stop, with the byte of the text where it is.
 fn fault(stop: Stop, text: &str) -> TextFault
     ensures { result ≡ fault_of stop (chars text.now) }
 {
@@ -49,10 +49,10 @@ fn fault(stop: Stop, text: &str) -> TextFault
     }
 }
 
-/// The text that bytes are in UTF-8.
+/// Returns the bytes as a text. Fails with `BadUtf8`, at the first byte that begins no UTF-8, if they are not UTF-8.
 pub fn text_of(bytes: &[u8]) -> Result<&str, TextFault>
     ensures ok { IfOk result (λ text. text.now ≡ bytes.now) }
-    // The first byte that begins no UTF-8.
+    // The fault is at the first byte that begins no UTF-8.
     ensures refused { IfErr result (IsRefusal bytes.now) }
 {
     match str::from_utf8(bytes) {
@@ -61,21 +61,23 @@ pub fn text_of(bytes: &[u8]) -> Result<&str, TextFault>
     }
 }
 
-/// The next term of what is left of a text, which has a dot behind it, and what is left then; none where no more than
-/// a gap stands there. A fault has its byte in the whole text.
+/// Reads the next term, followed by a dot, from `rest`, the end of a text. Returns the term and what follows, or `None`
+/// if only a gap remains. Fails with the first fault, whose byte is counted from the beginning of the whole text, or if
+/// an allocation fails.
 pub fn next_term<'t, A: Allocator + Copy>(
     alloc: A,
     text: &str,
     rest: &'t str,
 ) -> Result<Option<(Term<A>, &'t str)>, TextFault>
-    // What is read stands there.
+    // What is read is what the text spells next.
     ensures ok { IfOk result (λ next. Next (chars rest.now)
         (option_map (λ x. (x.0, chars x.1.now)) next)) }
-    // What stands there is read, unless memory runs out.
+    // What the text spells next is read, unless memory runs out.
     ensures only { (there : Option (Datum × List ℕ)) → Next (chars rest.now) there → MatchResult
         result (λ next. option_map (λ x. (x.0, chars x.1.now)) next ≡ there)
         (λ fault. fault ≡ TextFault.Memory) }
-    // What a refusal names is the fault of the text, where so many of its terms stand before what is left.
+    // A fault that is returned is the fault of the whole text, if the text before `rest` consists of terms with their
+    // dots.
     ensures cause { (ds : List Datum) → Front (chars text.now) ds (chars rest.now) → IfErr result
         (λ fault. (fault ≡ TextFault.Memory) ⊎ IsRefusal text.now fault) }
 {
@@ -85,16 +87,17 @@ pub fn next_term<'t, A: Allocator + Copy>(
     }
 }
 
-/// The terms of a text, which has a dot behind each.
+/// Reads the terms of a text, each followed by a dot. Fails with the first fault, whose byte is counted from 0, or if
+/// an allocation fails.
 pub fn read_terms<A: Allocator + Copy>(alloc: A, bytes: &[u8]) -> Result<Vec<Term<A>, A>, TextFault>
-    // What is read is spelled so.
+    // What is read is what the text spells.
     ensures ok { IfOk result (λ terms. Spells bytes.now terms.items) }
-    // What is spelled so is read, unless memory runs out.
+    // What the text spells is read, unless memory runs out.
     ensures only { (ds : List Datum) → Spells bytes.now ds
         → MatchResult result (λ terms. terms.items ≡ ds) (λ fault. fault ≡ TextFault.Memory) }
-    // What a refusal names stands at its byte, and what stands before has no fault.
+    // The cause that a fault names is at its byte, and the text before that byte has no fault.
     ensures cause { IfErr result (λ fault. HasCause bytes.now fault) }
-    // The first byte that begins no UTF-8.
+    // `BadUtf8` has the first byte that begins no UTF-8.
     ensures bad_utf8 { (at : ℕ) → IsErrOf result (TextFault.BadUtf8 at) ↔ IsValidUpTo bytes.now at }
 {
     let text = match str::from_utf8(bytes) {

@@ -1,19 +1,21 @@
 //! The tokens of term text.
-ghost use Rattle.std.specs.Prelude.{◌≡◌, ◌∷◌, ◌≤◌, ◌<◌, ◌^◌, ◌-◌, min, true, false, length, IfSome, IfOk, MatchOption, if◌then◌else◌};
+ghost use Rattle.std.specs.Prelude.{◌≡◌, ◌∷◌, ◌≤◌, ◌<◌, ◌^◌, ◌-◌, ◌≢◌, min, true, false, length, Ok, IfSome, IfOk, MatchOption, if◌then◌else◌};
 ghost use Rattle.std.specs.Option.{option_map};
 ghost use Rattle.std.specs.List.{prefix_len, AllByRecursion};
 ghost use Rattle.std.specs.Char.{is_ascii_digit};
 ghost use Rattle.std.specs.Str.{chars};
-ghost use Rattle.term_text.specs.Character.{is_white_space, is_word, escaped};
+ghost use Rattle.term_text.specs.Character.{is_white_space, is_word, escaped, backslash};
 ghost use Rattle.term_text.specs.Tokens.{EndsRun};
-ghost use Rattle.term_text.specs.TokenReading.{Gives, after_gap, opening, behind, behind_both, begins, integer_at, number_run, character_at, escape_at, signed, fits, expect, expect_both, begins_gap, dot_at, behind_sign, word_at, next_quoted, quoted_at, is_allowed};
+ghost use Rattle.term_text.specs.Reading.{after_comma};
+ghost use Rattle.term_text.specs.TokenReading.{Gives, after_gap, opening, behind, after_both, begins, integer_at, number_run, character_at, escape_at, signed, fits, expect, expect_both, begins_gap, dot_at, after_sign, word_at, next_quoted, quoted_at, is_allowed, is_plain};
 
+use crate::byte_table::is_word_byte;
 use crate::characters::{count, is_empty, split_ascii, split_first};
 use crate::stop::{Cause, Stop};
 use std::alloc::Allocator;
 use term_core::MAX_CHARACTERS;
 
-/// What a term begins with.
+/// The first token of a term.
 #[derive(Clone, Copy, PartialEq, Eq)]
 pub enum Opening {
     Integer,
@@ -26,7 +28,7 @@ pub enum Opening {
     Binary,
 }
 
-/// A fault at the beginning of this text.
+/// Returns the fault at the beginning of this text.
 #[inline(never)]
 pub fn stop(cause: Cause, text: &str) -> Stop
     ensures { result ≡ Stop.At cause (length (chars text.now)) }
@@ -34,21 +36,15 @@ pub fn stop(cause: Cause, text: &str) -> Stop
     Stop::At(cause, count(text))
 }
 
-/// Tabs, line feeds, form feeds, carriage returns and spaces.
+/// Returns whether a character is white space: a horizontal or vertical tab, line feed, form feed, carriage return or
+/// space.
 fn is_white_space(character: char) -> bool
     ensures { result ≡ is_white_space character }
 {
     matches!(character, '\t'..='\r' | ' ')
 }
 
-/// What a bare word goes on with.
-pub fn is_word(character: char) -> bool
-    ensures { result ≡ is_word character }
-{
-    character.is_ascii_alphanumeric() || character == '_' || character == '@'
-}
-
-/// The text behind white space and comments, which go from `%` to the end of their line.
+/// Returns the text after white space and comments. A comment goes from `%` to the end of its line.
 #[tactic(auto, using(crate::proofs::CharacterLemmas::no_gap, crate::proofs::CharacterLemmas::behind_line_feed))]
 #[inline(always)]
 pub fn after_gap(text: &str) -> &str
@@ -61,15 +57,16 @@ pub fn after_gap(text: &str) -> &str
         return after_other_gap(rest);
     }
     if is_white_space(first) {
-        return behind_gap(text);
+        return past_gap(text);
     }
     if first == '%' {
-        return behind_gap(text);
+        return past_gap(text);
     }
     text
 }
 
-/// The same, where a line feed isn't looked for by itself.
+/// Returns the text after white space and comments, after a line feed that was passed. It has no separate test for
+/// another line feed.
 #[tactic(auto, using(crate::proofs::CharacterLemmas::no_gap))]
 #[inline(always)]
 fn after_other_gap(text: &str) -> &str
@@ -79,17 +76,17 @@ fn after_other_gap(text: &str) -> &str
         return text;
     };
     if is_white_space(first) {
-        return behind_gap(text);
+        return past_gap(text);
     }
     if first == '%' {
-        return behind_gap(text);
+        return past_gap(text);
     }
     text
 }
 
-/// The same, where there are such.
+/// Returns the text after white space and comments, of which there are some.
 #[inline(never)]
-fn behind_gap(text: &str) -> &str
+fn past_gap(text: &str) -> &str
     ensures { chars result.now ≡ after_gap false (chars text.now) }
 {
     let mut rest = text;
@@ -109,7 +106,7 @@ fn behind_gap(text: &str) -> &str
     }
 }
 
-/// The text behind this character, where it stands there.
+/// Returns the text after this character, or `None` if the text doesn't begin with it.
 #[tactic(auto, using(crate::proofs::CharacterLemmas::none_behind))]
 #[inline(always)]
 pub fn behind(character: char, text: &str) -> Option<&str>
@@ -120,7 +117,19 @@ pub fn behind(character: char, text: &str) -> Option<&str>
     if first == character { Some(rest) } else { None }
 }
 
-/// Whether a digit comes next.
+/// Returns whether a comma follows the gap, with the text after the comma and its gap, or else after the first gap.
+#[inline(always)]
+pub fn after_comma(text: &str) -> (bool, &str)
+    ensures { (result.0, chars result.1.now) ≡ after_comma (chars text.now) }
+{
+    let text = after_gap(text);
+    match behind(',', text) {
+        Some(rest) => (true, after_gap(rest)),
+        None => (false, text),
+    }
+}
+
+/// Returns whether the text begins with a digit.
 #[tactic(auto, using(crate::proofs::CharacterLemmas::no_digit))]
 fn begins_digits(text: &str) -> bool
     ensures { result ≡ begins is_ascii_digit (chars text.now) }
@@ -131,7 +140,7 @@ fn begins_digits(text: &str) -> bool
     }
 }
 
-/// What a term begins with, and the text to read it from.
+/// Returns the first token of a term, and the text to read the term from. Returns `None` if no term begins.
 #[tactic(auto, using(crate::proofs::CharacterLemmas::no_opening))]
 #[inline(always)]
 pub fn begin(text: &str) -> Option<(Opening, &str)>
@@ -152,7 +161,7 @@ pub fn begin(text: &str) -> Option<(Opening, &str)>
     }
 }
 
-/// The text behind this character, which has to stand there.
+/// Returns the text after this character. Stops with a syntax fault if the text doesn't begin with it.
 #[tactic(auto, using(crate::proofs::CharacterLemmas::expected, crate::proofs::CharacterLemmas::not_expected))]
 #[inline(always)]
 pub fn expect(character: char, text: &str) -> Result<&str, Stop>
@@ -165,28 +174,28 @@ pub fn expect(character: char, text: &str) -> Result<&str, Stop>
     }
 }
 
-/// The text behind these two characters, where they stand there.
+/// Returns the text after these two characters, or `None` if the text doesn't begin with them.
 #[tactic(auto, using(crate::proofs::CharacterLemmas::behind_second, crate::proofs::CharacterLemmas::no_second))]
-pub fn behind_both(first: char, second: char, text: &str) -> Option<&str>
+pub fn after_both(first: char, second: char, text: &str) -> Option<&str>
     requires { (first < 128) × (second < 128) }
-    ensures { option_map (λ rest. chars rest.now) result ≡ behind_both first second (chars text.now) }
+    ensures { option_map (λ rest. chars rest.now) result ≡ after_both first second (chars text.now) }
 {
     behind(second, behind(first, text)?)
 }
 
-/// The text behind these two characters, which have to stand there.
+/// Returns the text after these two characters. Stops with a syntax fault if the text doesn't begin with them.
 #[tactic(auto, using(crate::proofs::CharacterLemmas::both_expected, crate::proofs::CharacterLemmas::both_not_expected))]
 pub fn expect_both(first: char, second: char, text: &str) -> Result<&str, Stop>
     requires { (first < 128) × (second < 128) }
     ensures { Gives (λ rest. chars rest.now) result (expect_both first second (chars text.now)) }
 {
-    match behind_both(first, second, text) {
+    match after_both(first, second, text) {
         Some(rest) => Ok(rest),
         None => Err(stop(Cause::Syntax, text)),
     }
 }
 
-/// Whether white space, a comment or the end comes next.
+/// Returns whether the text begins with white space or a comment, or is empty.
 #[tactic(auto, using(crate::proofs::CharacterLemmas::gap_at_end))]
 #[inline(always)]
 fn begins_gap(text: &str) -> bool
@@ -198,7 +207,8 @@ fn begins_gap(text: &str) -> bool
     }
 }
 
-/// The text behind a dot, which white space, a comment or the end has to follow.
+/// Returns the text after a dot that is followed by white space, a comment or the end. Otherwise stops with a syntax
+/// fault.
 #[tactic(auto, using(crate::proofs::CharacterLemmas::no_dot, crate::proofs::CharacterLemmas::dot_is, crate::proofs::CharacterLemmas::dot_goes_on))]
 #[inline(always)]
 pub fn dot(text: &str) -> Result<&str, Stop>
@@ -214,10 +224,10 @@ pub fn dot(text: &str) -> Result<&str, Stop>
     }
 }
 
-/// A number below this has room for one more digit.
+/// A number below this one can have a digit appended without overflow.
 const ROOM_FOR_A_DIGIT: u64 = 100_000_000_000_000_000;
 
-/// The number that the digits in front write, at most the greatest of 64 bits, and the text behind them.
+/// Reads the digits at the beginning. Returns their number, at most 2^64 - 1, and the text after them.
 #[tactic(auto, using(crate::proofs::CharacterLemmas::no_more_digits))]
 #[inline(always)]
 fn number(text: &str) -> (u64, &str)
@@ -239,8 +249,8 @@ fn number(text: &str) -> (u64, &str)
     more_digits(value, rest)
 }
 
-/// The number that the digits in front write behind those of another, at most the greatest of 64 bits, and the text
-/// behind them.
+/// Reads the digits at the beginning, which continue the number `before`. Returns the number, at most 2^64 - 1, and the
+/// text after them.
 #[tactic(auto, using(crate::proofs::CharacterLemmas::no_more_digits))]
 #[inline(never)]
 fn more_digits(before: u64, text: &str) -> (u64, &str)
@@ -261,7 +271,7 @@ fn more_digits(before: u64, text: &str) -> (u64, &str)
     }
 }
 
-/// A number with its sign, where 64 bits hold the integer.
+/// Returns the integer with this sign and magnitude, or `None` if it needs more than 64 bits.
 #[inline(always)]
 fn with_sign(is_negative: bool, magnitude: u64) -> Option<i64>
     ensures { result ≡ (if fits is_negative magnitude then Some (signed is_negative magnitude) else
@@ -274,11 +284,11 @@ fn with_sign(is_negative: bool, magnitude: u64) -> Option<i64>
     }
 }
 
-/// Whether a minus stands first, and the text behind the sign.
+/// Returns whether the text begins with a minus, and the text after the sign, if any.
 #[tactic(auto, using(crate::proofs::CharacterLemmas::no_sign))]
 #[inline(always)]
-fn behind_sign(text: &str) -> (bool, &str)
-    ensures { (result.0, chars result.1.now) ≡ behind_sign (chars text.now) }
+fn after_sign(text: &str) -> (bool, &str)
+    ensures { (result.0, chars result.1.now) ≡ after_sign (chars text.now) }
 {
     let Some((first, rest)) = split_ascii(text) else {
         return (false, text);
@@ -290,13 +300,13 @@ fn behind_sign(text: &str) -> (bool, &str)
     }
 }
 
-/// An integer: a sign or none, and digits.
+/// Reads an integer: an optional sign, and digits.
 #[tactic(auto, unfolding(crate::specs::TokenReading::integer_at))]
 #[inline(always)]
 pub fn integer(text: &str) -> Result<(i64, &str), Stop>
     ensures { Gives (λ x. (x.0, chars x.1.now)) result (integer_at (chars text.now)) }
 {
-    let (is_negative, unsigned) = behind_sign(text);
+    let (is_negative, unsigned) = after_sign(text);
     let (magnitude, rest) = number(unsigned);
     match with_sign(is_negative, magnitude) {
         Some(value) => Ok((value, rest)),
@@ -304,7 +314,7 @@ pub fn integer(text: &str) -> Result<(i64, &str), Stop>
     }
 }
 
-/// The number of an integer without a sign, where 63 bits hold it, and the text behind it.
+/// Reads an integer without a sign. Returns it and the text after it, or `None` if it needs more than 63 bits.
 #[tactic(auto, using(crate::proofs::Short::plain_number))]
 #[inline(always)]
 pub fn plain_number(text: &str) -> Option<(i64, &str)>
@@ -316,53 +326,31 @@ pub fn plain_number(text: &str) -> Option<(i64, &str)>
     Some((value, rest))
 }
 
-/// The next character of a bare word, and the text behind it.
-#[tactic(auto, using(crate::proofs::CharacterLemmas::no_word))]
+/// Returns the number of characters of the bare word at the beginning, each of which is one byte.
 #[inline(always)]
-pub fn letter(text: &str) -> Option<(char, &str)>
-    ensures { MatchOption result (EndsRun is_word (chars text.now)) (λ x.
-        (is_word x.0 ≡ true) × (chars text.now ≡ x.0 ∷ chars x.1.now)) }
+fn letter_count(text: &str) -> usize
+    ensures { result ≡ prefix_len is_word text.now }
 {
-    let (first, rest) = split_ascii(text)?;
-    if is_word(first) {
-        Some((first, rest))
-    } else {
-        None
-    }
-}
-
-/// How many letters of a bare word stand in front, as one counts before memory is taken for them.
-fn letter_count(text: &str) -> usize {
     text.as_bytes()
         .iter()
-        .take_while(|byte| is_word(char::from(**byte)))
+        .take_while(|byte| is_word_byte(**byte))
         .count()
 }
 
-/// The characters of a bare word, and the text behind them.
-#[tactic(auto, using(crate::proofs::Words::word_begins, crate::proofs::Words::word_goes_on, crate::proofs::Words::word_ends, crate::proofs::Words::word_stops, crate::proofs::CharacterLemmas::no_word, crate::proofs::Words::word_too_long))]
-pub fn word<A: Allocator>(alloc: A, text: &str) -> Result<(Vec<char, A>, &str), Stop>
-    ensures { Gives (λ x. (x.0.items, chars x.1.now)) result (word_at (chars text.now)) }
+/// Reads a bare word. Returns it and the text after it.
+#[inline(always)]
+pub fn word(text: &str) -> Result<(&str, &str), Stop>
+    ensures { Gives (λ x. (chars x.0.now, chars x.1.now)) result (word_at (chars text.now)) }
 {
-    let mut characters = Vec::with_capacity(alloc, letter_count(text).min(MAX_CHARACTERS))?;
-    let mut rest = text;
-    loop {
-        let Some((character, behind)) = split_ascii(rest) else {
-            return Ok((characters, rest));
-        };
-        if !is_word(character) {
-            return Ok((characters, rest));
-        }
-        if characters.len() == MAX_CHARACTERS {
-            return Err(stop(Cause::TooLong, rest));
-        }
-        characters.push(character)?;
-        rest = behind;
+    let count = letter_count(text);
+    if count > MAX_CHARACTERS {
+        return Err(stop(Cause::TooLong, &text[MAX_CHARACTERS..]));
     }
+    Ok(text.split_at(count))
 }
 
-/// How the characters up to a mark are read: at most so many, what is wrong with one more, and whether each has to be a
-/// byte.
+/// How quoted characters are read: the mark that ends them, how many there may be, the cause of a fault at one more,
+/// and whether each has to be a byte.
 #[derive(Clone, Copy)]
 pub struct Marks {
     pub mark: char,
@@ -371,7 +359,8 @@ pub struct Marks {
     pub only_bytes: bool,
 }
 
-/// The character that a backslash and this one stand for.
+/// Returns the character that an escape of a backslash and this character stands for, or `None` if there is no such
+/// escape.
 fn escaped(character: char) -> Option<char>
     ensures { result ≡ escaped character }
 {
@@ -386,7 +375,7 @@ fn escaped(character: char) -> Option<char>
     }
 }
 
-/// What stands behind a backslash, at which the text begins.
+/// Reads an escape. `text` begins at the backslash, `behind` after it.
 fn escape<'t>(text: &str, behind: &'t str) -> Result<(char, &'t str), Stop>
     ensures { Gives (λ x. (x.0, chars x.1.now)) result (escape_at (chars text.now) (chars behind.now)) }
 {
@@ -399,7 +388,7 @@ fn escape<'t>(text: &str, behind: &'t str) -> Result<(char, &'t str), Stop>
     }
 }
 
-/// A character as it is or as an escape.
+/// Reads a character, given as itself or as an escape.
 #[tactic(auto, unfolding(crate::specs::TokenReading::character_at))]
 fn character(only_bytes: bool, text: &str) -> Result<(char, &str), Stop>
     ensures { Gives (λ x. (x.0, chars x.1.now)) result (character_at only_bytes (chars text.now)) }
@@ -417,7 +406,7 @@ fn character(only_bytes: bool, text: &str) -> Result<(char, &str), Stop>
     }
 }
 
-/// The next character behind so many, none at the mark.
+/// Reads the next quoted character, of which there are `count` so far. Returns `None` at the closing mark.
 #[tactic(auto, unfolding(crate::specs::TokenReading::next_quoted))]
 fn next_quoted(marks: Marks, count: usize, text: &str) -> Result<(Option<char>, &str), Stop>
     ensures { Gives (λ x. (x.0, chars x.1.now)) result (next_quoted marks count (chars text.now)) }
@@ -435,7 +424,7 @@ fn next_quoted(marks: Marks, count: usize, text: &str) -> Result<(Option<char>, 
     Ok((Some(character), rest))
 }
 
-/// The characters up to a mark, and the text behind it.
+/// Reads the characters up to the closing mark. Returns them and the text after the mark.
 pub fn quoted<A: Allocator>(
     alloc: A,
     marks: Marks,
@@ -455,4 +444,39 @@ pub fn quoted<A: Allocator>(
         characters.push(character)?;
         rest = after;
     }
+}
+
+/// Returns whether a byte is ASCII and stands for itself between these quotation marks.
+#[inline(always)]
+fn is_plain(mark: u8, byte: u8) -> bool
+    ensures { result ≡ is_plain mark byte }
+{
+    byte < 0x80 && byte != mark && byte != b'\\'
+}
+
+/// Returns the number of bytes at the beginning that are ASCII and stand for themselves between these quotation marks.
+#[inline(always)]
+fn plain_count(mark: u8, text: &str) -> usize
+    ensures { result ≡ prefix_len (is_plain mark) text.now }
+{
+    text.as_bytes()
+        .iter()
+        .take_while(|byte| is_plain(mark, **byte))
+        .count()
+}
+
+/// Reads the characters up to the closing mark, where each is ASCII and stands for itself. Returns them and the text
+/// after the mark, or `None` if one does not or there are too many.
+pub fn quoted_run(marks: Marks, text: &str) -> Option<(&str, &str)>
+    requires { (marks.mark < 128) × (marks.mark ≢ backslash) }
+    ensures value { IfSome result (λ x. quoted_at marks (chars text.now) ≡ Ok (x.0.now, chars x.1.now)) }
+    ensures text { IfSome result (λ x. chars x.0.now ≡ x.0.now) }
+{
+    let count = plain_count(marks.mark as u32 as u8, text);
+    if count > marks.room {
+        return None;
+    }
+    let (run, after) = text.split_at(count);
+    let rest = behind(marks.mark, after)?;
+    Some((run, rest))
 }

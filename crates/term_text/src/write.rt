@@ -1,6 +1,6 @@
 //! Writing terms.
-ghost use Rattle.std.specs.Prelude.{◌≡◌, ◌<◌, ◌++◌, ◌∷◌, [], length, decimal, true, ◌&&◌, Some, None, if◌then◌else◌, OnOk, OnErr};
-ghost use Rattle.std.specs.Str.{encode_utf8_all, bytes_eq};
+ghost use Rattle.std.specs.Prelude.{◌≡◌, ◌<◌, ◌++◌, ◌∷◌, [], length, decimal, slice_get, true, ◌&&◌, Some, None, if◌then◌else◌, OnOk, OnErr};
+ghost use Rattle.std.specs.Str.{chars, encode_utf8_all, bytes_eq};
 ghost use Rattle.std.specs.Prelude.{map as each};
 ghost use Rattle.std.specs.List.{list_any};
 ghost use Rattle.std.specs.Fmt.{signed_decimal};
@@ -10,12 +10,13 @@ ghost use Rattle.term_core.specs.Datum.Datum.{integer, tuple, map, nil, binary};
 ghost use Rattle.term_core.specs.Term.{tail_of, IsTail};
 ghost use Rattle.term_text.specs.Character.{backslash, double_quote, equals, greater};
 ghost use Rattle.term_text.specs.Canonical.{are_word, canonical, readable, text_as, atom_text, is_bare, has_bare_form};
-ghost use Rattle.term_text.specs.Canonical.{is_reserved, quoted_character, quoted_characters, quoted_text, bytes_text};
+ghost use Rattle.term_text.specs.Canonical.{is_reserved, begins_reserved, quoted_character, quoted_characters, quoted_text, bytes_text};
 ghost use Rattle.term_text.specs.Canonical.{is_some, is_shown, are_shown, is_character, code_of, codes_of, is_string, shows_strings};
 ghost use Rattle.term_text.specs.Canonical.{binary_text, segments_text, items_text, entries_text, tail_text};
 
 use crate::added::Added;
-use crate::token::is_word;
+use crate::byte_table::is_word_byte;
+use crate::characters::split_first;
 use itoa::Buffer;
 use std::alloc::{AllocError, Allocator};
 use std::mem;
@@ -24,14 +25,14 @@ use term_core::{Term, View};
 /// How lists and binaries of printable characters are written.
 #[derive(Clone, Copy, Debug, PartialEq, Eq)]
 pub enum Form {
-    /// As lists and as bytes: the one canonical text.
+    /// As lists and as bytes: the one canonical text of a term.
     Canonical,
-    /// Between double quotes, for persons.
+    /// Between double quotes, for people.
     Readable,
 }
 
 impl Form {
-    /// Whether they are.
+    /// Returns whether lists and binaries of printable characters are written between double quotes.
     fn shows_strings(self) -> bool
         ensures { result ≡ shows_strings self }
     {
@@ -42,79 +43,106 @@ impl Form {
     }
 }
 
-/// Words that are written in quotes.
-const RESERVED: [&str; 29] = [
-    "after", "and", "andalso", "band", "begin", "bnot", "bor", "bsl", "bsr", "bxor", "case",
-    "catch", "cond", "div", "else", "end", "fun", "if", "let", "maybe", "not", "of", "or",
-    "orelse", "receive", "rem", "try", "when", "xor",
-];
-
-/// Whether these are the characters of a text of ASCII characters.
-fn is_spelled(characters: &[char], text: &str) -> bool
-    ensures { result ≡ bytes_eq characters.now text.now }
+/// Returns whether a text is one of these texts.
+fn is_among(text: &str, texts: &[&str]) -> bool
+    ensures { result ≡ list_any (bytes_eq text.now) (each (λ other. other.now) texts.now) }
 {
-    let bytes = text.as_bytes();
-    if characters.len() != bytes.len() {
-        return false;
-    }
-    for (i, character) in characters.iter().enumerate() {
-        if *character as u32 != u32::from(bytes[i]) {
-            return false;
-        }
-    }
-    true
-}
-
-/// Whether these characters are those of one of these texts.
-fn is_among(characters: &[char], texts: &[&str]) -> bool
-    ensures { result ≡ list_any (bytes_eq characters.now) (each (λ text. text.now) texts.now) }
-{
-    for text in texts {
-        if is_spelled(characters, text) {
+    for other in texts {
+        if text == *other {
             return true;
         }
     }
     false
 }
 
-/// Whether a word is among those that are written in quotes.
-#[tactic(auto, unfolding(crate::specs::Canonical::is_reserved))]
-fn is_reserved(characters: &[char]) -> bool
-    ensures { result ≡ is_reserved characters.now }
+/// The reserved words of Erlang: an atom of one of these is written in quotes.
+const RESERVED: [&str; 29] = [
+    "after", "and", "andalso", "band", "begin", "bnot", "bor", "bsl", "bsr", "bxor", "case",
+    "catch", "cond", "div", "else", "end", "fun", "if", "let", "maybe", "not", "of", "or",
+    "orelse", "receive", "rem", "try", "when", "xor",
+];
+
+/// Returns whether a reserved word begins with this byte.
+#[inline(always)]
+fn begins_reserved(first: u8) -> bool
+    ensures { result ≡ begins_reserved first }
 {
-    is_among(characters, &RESERVED)
+    matches!(first, b'a'..=b'f' | b'i' | b'l'..=b'o' | b'r' | b't' | b'w' | b'x')
 }
 
-/// Whether each character is a letter, a digit, `_` or `@`.
-fn are_word(characters: &[char]) -> bool
-    ensures { result ≡ are_word characters.now }
+/// Returns whether a word that begins with this byte is reserved. Compares it with the words that begin so.
+#[tactic(auto, using(crate::proofs::ByteWords::same_reserved))]
+fn is_reserved_by(first: u8, text: &str) -> bool
+    requires { Some first ≡ slice_get text.now 0 }
+    ensures { result ≡ is_reserved (chars text.now) }
 {
-    for character in characters {
-        if !is_word(*character) {
+    if !begins_reserved(first) {
+        return false;
+    }
+    match first {
+        b'a' => is_among(text, &["after", "and", "andalso"]),
+        b'b' => is_among(
+            text,
+            &["band", "begin", "bnot", "bor", "bsl", "bsr", "bxor"],
+        ),
+        b'c' => is_among(text, &["case", "catch", "cond"]),
+        b'd' => is_among(text, &["div"]),
+        b'e' => is_among(text, &["else", "end"]),
+        b'f' => is_among(text, &["fun"]),
+        b'i' => is_among(text, &["if"]),
+        b'l' => is_among(text, &["let"]),
+        b'm' => is_among(text, &["maybe"]),
+        b'n' => is_among(text, &["not"]),
+        b'o' => is_among(text, &["of", "or", "orelse"]),
+        b'r' => is_among(text, &["receive", "rem"]),
+        b't' => is_among(text, &["try"]),
+        b'w' => is_among(text, &["when"]),
+        b'x' => is_among(text, &["xor"]),
+        _ => is_among(text, &RESERVED),
+    }
+}
+
+/// Returns whether a word is reserved, and so written in quotes.
+fn is_reserved(text: &str) -> bool
+    ensures { result ≡ is_reserved (chars text.now) }
+{
+    match text.as_bytes().first() {
+        Some(first) => is_reserved_by(*first, text),
+        None => false,
+    }
+}
+
+/// Returns whether each of these bytes is an ASCII letter or digit, `_` or `@`.
+fn are_word(bytes: &[u8]) -> bool
+    ensures { result ≡ are_word bytes.now }
+{
+    for byte in bytes {
+        if !is_word_byte(*byte) {
             return false;
         }
     }
     true
 }
 
-/// Whether these characters are the text of a bare word: a small letter, and letters, digits, `_` and `@` behind it.
-fn has_bare_form(characters: &[char]) -> bool
-    ensures { result ≡ has_bare_form characters.now }
+/// Returns whether these bytes form a bare word: a small letter, followed by letters, digits, `_` and `@`.
+fn has_bare_form(bytes: &[u8]) -> bool
+    ensures { result ≡ has_bare_form bytes.now }
 {
-    match characters {
+    match bytes {
         [] => false,
         [first, rest @ ..] => first.is_ascii_lowercase() && are_word(rest),
     }
 }
 
-/// Whether an atom of these characters is written without quotes.
-fn is_bare(characters: &[char]) -> bool
-    ensures { result ≡ is_bare characters.now }
+/// Returns whether an atom of this text is written without quotes.
+#[tactic(auto, using(crate::proofs::ByteWords::same_form))]
+fn is_bare(text: &str) -> bool
+    ensures { result ≡ is_bare (chars text.now) }
 {
-    has_bare_form(characters) && !is_reserved(characters)
+    has_bare_form(text.as_bytes()) && !is_reserved(text)
 }
 
-/// Appends a character as it stands between such marks.
+/// Appends a character as it is written between these quotation marks.
 fn put_quoted<B: Allocator>(
     mark: char,
     character: char,
@@ -134,7 +162,7 @@ fn put_quoted<B: Allocator>(
     }
 }
 
-/// Appends a mark behind a backslash.
+/// Appends a backslash and a mark.
 fn put_mark<B: Allocator>(mark: char, out: &mut Added<B>) -> Result<(), AllocError>
     ensures front { out.new.front ≡ out.old.front }
     ensures items { OnOk result (out.new.items ≡ out.old.items ++ encode_utf8_all (backslash ∷ mark ∷ [])) }
@@ -152,57 +180,50 @@ fn put_character<B: Allocator>(character: char, out: &mut Added<B>) -> Result<()
     out.extend_from_slice(character.encode_utf8(&mut buffer).as_bytes())
 }
 
-/// Appends these characters as they are.
-fn put_characters<B: Allocator>(characters: &[char], out: &mut Added<B>) -> Result<(), AllocError>
-    ensures front { out.new.front ≡ out.old.front }
-    ensures items { OnOk result (out.new.items ≡ out.old.items ++ encode_utf8_all characters.now) }
-{
-    for character in characters {
-        put_character(*character, out)?;
-    }
-    Ok(())
-}
-
-/// Appends these characters as they stand between such marks.
+/// Appends the characters of a text as they are written between these quotation marks.
 fn put_all_quoted<B: Allocator>(
     mark: char,
-    characters: &[char],
+    text: &str,
     out: &mut Added<B>,
 ) -> Result<(), AllocError>
     ensures front { out.new.front ≡ out.old.front }
     ensures items { OnOk result (out.new.items ≡ out.old.items
-        ++ encode_utf8_all (quoted_characters mark characters.now)) }
+        ++ encode_utf8_all (quoted_characters mark (chars text.now))) }
 {
-    for character in characters {
-        put_quoted(mark, *character, out)?;
+    let mut rest = text;
+    loop {
+        let Some((character, after)) = split_first(rest) else {
+            return Ok(());
+        };
+        put_quoted(mark, character, out)?;
+        rest = after;
     }
-    Ok(())
 }
 
-/// Appends an atom, bare where it can be.
+/// Appends an atom, without quotes if possible.
 #[tactic(auto, using(crate::proofs::Bytes::quoted_bytes))]
-fn put_atom<B: Allocator>(characters: &[char], out: &mut Added<B>) -> Result<(), AllocError>
+fn put_atom<B: Allocator>(text: &str, out: &mut Added<B>) -> Result<(), AllocError>
     ensures front { out.new.front ≡ out.old.front }
     ensures items { OnOk result (out.new.items ≡ out.old.items
-        ++ encode_utf8_all (atom_text characters.now)) }
+        ++ encode_utf8_all (atom_text (chars text.now))) }
 {
-    if is_bare(characters) {
-        return put_characters(characters, out);
+    if is_bare(text) {
+        return out.extend_from_slice(text.as_bytes());
     }
     out.push(b'\'')?;
-    put_all_quoted('\'', characters, out)?;
+    put_all_quoted('\'', text, out)?;
     out.push(b'\'')?;
     Ok(())
 }
 
-/// Whether a byte is a printable character of ASCII, a tab, a line feed or a carriage return.
+/// Returns whether a byte is a printable ASCII character, a tab, a line feed or a carriage return.
 fn is_shown(byte: u8) -> bool
     ensures { result ≡ is_shown byte }
 {
     matches!(byte, b' '..=b'~' | b'\t' | b'\n' | b'\r')
 }
 
-/// Whether bytes are such characters.
+/// Returns whether all bytes are printable ASCII characters, tabs, line feeds or carriage returns.
 fn are_shown(bytes: &[u8]) -> bool
     ensures { result ≡ are_shown bytes.now }
 {
@@ -214,7 +235,7 @@ fn are_shown(bytes: &[u8]) -> bool
     true
 }
 
-/// Appends such characters between double quotes.
+/// Appends these printable characters between double quotes.
 #[tactic(auto, using(crate::proofs::Bytes::shown_bytes))]
 fn put_shown<B: Allocator>(bytes: &[u8], out: &mut Added<B>) -> Result<(), AllocError>
     ensures front { out.new.front ≡ out.old.front }
@@ -229,7 +250,7 @@ fn put_shown<B: Allocator>(bytes: &[u8], out: &mut Added<B>) -> Result<(), Alloc
     Ok(())
 }
 
-/// The printable character of a code.
+/// Returns the printable character with this code, or `None` if there is none.
 fn shown_character(code: i64) -> Option<u8>
     ensures { result ≡ (if is_character (integer code) then Some (code_of (integer code)) else None) }
 {
@@ -237,7 +258,7 @@ fn shown_character(code: i64) -> Option<u8>
     if is_shown(byte) { Some(byte) } else { None }
 }
 
-/// The printable character that an integer is the code of; none for other terms.
+/// Returns the printable character of which an integer is the code, or `None` for any other term.
 fn character_of<A: Allocator>(term: &Term<A>) -> Option<u8>
     ensures { result ≡ (if is_character term.now then Some (code_of term.now) else None) }
 {
@@ -247,7 +268,7 @@ fn character_of<A: Allocator>(term: &Term<A>) -> Option<u8>
     }
 }
 
-/// Whether terms are codes of printable characters.
+/// Returns whether all of these terms are codes of printable characters.
 fn are_characters<A: Allocator>(elements: &[Term<A>]) -> bool
     ensures { result ≡ is_string (cells elements.now nil) }
 {
@@ -259,7 +280,7 @@ fn are_characters<A: Allocator>(elements: &[Term<A>]) -> bool
     true
 }
 
-/// Appends the character of which a term is the code, as it stands between double quotes.
+/// Appends the character of which a term is the code, as it is written between double quotes.
 fn put_code<A: Allocator, B: Allocator>(
     term: &Term<A>,
     out: &mut Added<B>,
@@ -275,7 +296,7 @@ fn put_code<A: Allocator, B: Allocator>(
     }
 }
 
-/// Appends the characters of which terms are the codes, between double quotes.
+/// Appends the characters of which these terms are the codes, between double quotes.
 fn put_string<A: Allocator, B: Allocator>(
     elements: &[Term<A>],
     out: &mut Added<B>,
@@ -293,13 +314,31 @@ fn put_string<A: Allocator, B: Allocator>(
     Ok(())
 }
 
+/// Appends a number below 100 in decimal.
+#[inline(always)]
+fn put_small<B: Allocator>(value: u8, out: &mut Added<B>) -> Result<(), AllocError>
+    requires { value < 100 }
+    ensures front { out.new.front ≡ out.old.front }
+    ensures items { OnOk result (out.new.items ≡ out.old.items ++ decimal value) }
+{
+    if value < 10 {
+        return out.push(b'0' + value);
+    }
+    out.push(b'0' + value / 10)?;
+    out.push(b'0' + value % 10)
+}
+
 /// Appends a byte in decimal.
+#[inline(always)]
 fn put_byte<B: Allocator>(byte: u8, out: &mut Added<B>) -> Result<(), AllocError>
     ensures front { out.new.front ≡ out.old.front }
     ensures items { OnOk result (out.new.items ≡ out.old.items ++ decimal byte) }
 {
-    let mut buffer = Buffer::new();
-    out.extend_from_slice(buffer.format(byte).as_bytes())
+    if byte < 100 {
+        return put_small(byte, out);
+    }
+    put_small(byte / 10, out)?;
+    out.push(b'0' + byte % 10)
 }
 
 /// Appends an integer in decimal.
@@ -311,7 +350,7 @@ fn put_integer<B: Allocator>(value: i64, out: &mut Added<B>) -> Result<(), Alloc
     out.extend_from_slice(buffer.format(value).as_bytes())
 }
 
-/// Appends bytes in decimal, with commas between.
+/// Appends bytes in decimal, separated by commas.
 fn put_bytes<B: Allocator>(bytes: &[u8], out: &mut Added<B>) -> Result<(), AllocError>
     ensures front { out.new.front ≡ out.old.front }
     ensures items { OnOk result (out.new.items ≡ out.old.items ++ bytes_text bytes.now) }
@@ -327,7 +366,7 @@ fn put_bytes<B: Allocator>(bytes: &[u8], out: &mut Added<B>) -> Result<(), Alloc
     Ok(())
 }
 
-/// Appends the text of a term.
+/// Appends the text of a term in this form.
 #[tactic(auto, using(crate::proofs::Bytes::integer_bytes, crate::proofs::Bytes::nil_bytes, crate::proofs::Bytes::atom_is, crate::proofs::Bytes::binary_is, crate::proofs::Bytes::list_depth))]
 #[cycle(put)]
 fn put<A: Allocator, B: Allocator>(
@@ -340,7 +379,7 @@ fn put<A: Allocator, B: Allocator>(
 {
     match term.view() {
         View::Integer(value) => put_integer(value, out),
-        View::Atom(characters) => put_atom(characters, out),
+        View::Atom(text) => put_atom(text, out),
         View::Tuple(elements) => put_tuple(form, elements, out),
         View::Nil => out.extend_from_slice(b"[]"),
         View::List(elements, tail) => put_list(form, elements, tail, out),
@@ -349,7 +388,7 @@ fn put<A: Allocator, B: Allocator>(
     }
 }
 
-/// Whether a binary of these bytes stands between double quotes.
+/// Returns whether a binary of these bytes is written between double quotes in this form.
 fn is_text(form: Form, bytes: &[u8]) -> bool
     ensures { result ≡ (shows_strings form && (is_some bytes.now && are_shown bytes.now)) }
 {
@@ -359,7 +398,7 @@ fn is_text(form: Form, bytes: &[u8]) -> bool
     }
 }
 
-/// Appends what stands in a binary.
+/// Appends the content of a binary.
 #[tactic(auto, using(crate::proofs::Bytes::bytes_ascii))]
 fn put_segments<B: Allocator>(
     form: Form,
@@ -389,7 +428,7 @@ fn put_binary<B: Allocator>(form: Form, bytes: &[u8], out: &mut Added<B>) -> Res
     Ok(())
 }
 
-/// Appends a tuple.
+/// Appends the tuple of these elements.
 #[tactic(auto, using(crate::proofs::Bytes::tuple_bytes))]
 #[cycle(put)]
 fn put_tuple<A: Allocator, B: Allocator>(
@@ -407,7 +446,7 @@ fn put_tuple<A: Allocator, B: Allocator>(
     Ok(())
 }
 
-/// Appends terms with commas between.
+/// Appends terms separated by commas.
 #[tactic(auto, using(crate::proofs::Bytes::items_bytes, crate::proofs::Bytes::no_items_bytes, crate::proofs::Bytes::more_items_bytes, crate::proofs::Bytes::element_depth))]
 #[cycle(put)]
 fn put_elements<A: Allocator, B: Allocator>(
@@ -430,7 +469,7 @@ fn put_elements<A: Allocator, B: Allocator>(
     Ok(())
 }
 
-/// Whether a list stands between double quotes.
+/// Returns whether a list is written between double quotes in this form.
 fn is_string<A: Allocator>(form: Form, elements: &[Term<A>], tail: Option<&Term<A>>) -> bool
     requires { IsTail (option_copied tail) }
     ensures { result ≡ (shows_strings form
@@ -469,7 +508,7 @@ fn put_list<A: Allocator, B: Allocator>(
     Ok(())
 }
 
-/// Appends a map.
+/// Appends the map of these pairs.
 #[tactic(auto, using(crate::proofs::Bytes::map_bytes))]
 #[cycle(put)]
 fn put_map<A: Allocator, B: Allocator>(
@@ -487,7 +526,7 @@ fn put_map<A: Allocator, B: Allocator>(
     Ok(())
 }
 
-/// Appends pairs with commas between.
+/// Appends pairs separated by commas.
 #[tactic(auto, using(crate::proofs::Bytes::pairs_bytes, crate::proofs::Bytes::no_pairs_bytes, crate::proofs::Bytes::more_pairs_bytes, crate::proofs::Bytes::entry_depth))]
 #[cycle(put)]
 fn put_pairs<A: Allocator, B: Allocator>(
@@ -529,7 +568,7 @@ fn put_pair<A: Allocator, B: Allocator>(
     Ok(())
 }
 
-/// A text to be added to this one, which is taken from where it is.
+/// Takes the bytes out of `out`, which is then empty, to append to them.
 #[inline(always)]
 fn taken<B: Allocator + Copy>(out: &mut Vec<u8, B>) -> Added<B>
     ensures front { result.front ≡ out.old.items }
@@ -539,7 +578,7 @@ fn taken<B: Allocator + Copy>(out: &mut Vec<u8, B>) -> Added<B>
     Added::new(mem::replace(out, empty))
 }
 
-/// Puts a text back, with what was added where that ended well.
+/// Puts the bytes back into `out`: with what was appended if `ended` is `Ok`, without it otherwise. Returns `ended`.
 #[inline(always)]
 fn put_back<B: Allocator>(
     text: Added<B>,
@@ -557,7 +596,7 @@ fn put_back<B: Allocator>(
     ended
 }
 
-/// Appends the text of a term in such a form. After an `Err` the text is as before.
+/// Appends the text of a term in this form, in UTF-8. Fails if an allocation fails; `out` is then unchanged.
 pub fn write_as<A: Allocator, B: Allocator + Copy>(
     form: Form,
     term: &Term<A>,
@@ -572,8 +611,8 @@ pub fn write_as<A: Allocator, B: Allocator + Copy>(
     put_back(text, ended, out)
 }
 
-/// Appends the canonical text of a term: no white space, integers in decimal, lists never as strings, maps by rising
-/// keys. After an `Err` the text is as before.
+/// Appends the canonical text of a term: no white space, integers in decimal, lists never as strings, maps in ascending
+/// key order. Fails if an allocation fails; `out` is then unchanged.
 pub fn write_term<A: Allocator, B: Allocator + Copy>(
     term: &Term<A>,
     out: &mut Vec<u8, B>,
@@ -585,9 +624,9 @@ pub fn write_term<A: Allocator, B: Allocator + Copy>(
     write_as(Form::Canonical, term, out)
 }
 
-/// Appends the text of a term that a person reads: the canonical one, but that a list of characters and a binary of
-/// such bytes, each of one at least, stand between double quotes, where all are printable ASCII, tabs, line feeds and
-/// carriage returns. After an `Err` the text is as before.
+/// Appends the text of a term for people. It is the canonical text, except that strings are written between double
+/// quotes. A string is a binary or a proper list of character codes that is not empty, and consists of printable ASCII,
+/// tabs, line feeds and carriage returns. Fails if an allocation fails; `out` is then unchanged.
 pub fn write_readable<A: Allocator, B: Allocator + Copy>(
     term: &Term<A>,
     out: &mut Vec<u8, B>,
@@ -599,8 +638,8 @@ pub fn write_readable<A: Allocator, B: Allocator + Copy>(
     write_as(Form::Readable, term, out)
 }
 
-/// Appends the canonical text of the binary of these bytes, as `<<1,2>>`; there may be more of them than a term may
-/// have. After an `Err` the text is as before.
+/// Appends the canonical text of the binary of these bytes, such as `<<1,2>>`. There may be more bytes than a term may
+/// have. Fails if an allocation fails; `out` is then unchanged.
 #[tactic(auto, using(crate::proofs::Bytes::binary_is))]
 pub fn write_binary<B: Allocator + Copy>(
     bytes: &[u8],

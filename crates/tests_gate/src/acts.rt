@@ -1,4 +1,4 @@
-//! What a session does where there is memory, each act with the number that has to come of it.
+//! What a session does when memory is available: acts, each with the number that it has to result in.
 ghost use Rattle.std.specs.Prelude.{◌≡◌};
 ghost use Rattle.tables.specs.Sessions.{IsOpened};
 
@@ -14,7 +14,7 @@ use tables::{Session, Table, Turns, delete, fix, lookup, unfix};
 use term_core::Term;
 use walks::next;
 
-/// Keys that follow one another, so far apart.
+/// Keys in ascending order, with equal distances.
 #[derive(Clone, Copy)]
 pub(crate) struct Keys {
     pub(crate) first: u32,
@@ -23,13 +23,13 @@ pub(crate) struct Keys {
 }
 
 impl Keys {
-    /// The key of a place.
+    /// Returns the key at a place, counted from 0.
     pub(crate) fn at(self, place: u32) -> u32 {
         self.first.saturating_add(place.saturating_mul(self.apart))
     }
 }
 
-/// One key.
+/// Returns one key alone.
 pub(crate) const fn only(key: u32) -> Keys {
     Keys {
         first: key,
@@ -38,32 +38,32 @@ pub(crate) const fn only(key: u32) -> Keys {
     }
 }
 
-/// What a refused question for a key comes to, with the number of the refusal.
+/// To which the error code is added for the result of a rejected request for a key.
 pub(crate) const REFUSED: u32 = 1_000;
 
-/// What a session does. What answers nothing comes to 0.
+/// An act of a session. The result of one that returns nothing is 0.
 #[derive(Clone, Copy)]
 pub(crate) enum Act {
-    /// It puts the object of each key in.
+    /// It inserts the object of each key.
     Put(Keys),
     /// It deletes each key.
     Delete(Keys),
-    /// It asks how many objects a key has.
+    /// It counts the objects of a key.
     Count(u32),
-    /// It asks whether a key has an object: 1 where it has.
+    /// It checks whether a key has an object: 1 if it has.
     Member(u32),
-    /// It asks for the key behind another: that key, or what a refusal comes to.
+    /// It requests the key that follows another: the result is that key, or 1,000 plus the error code.
     Next(u32),
     /// It fixes the table.
     Fix,
-    /// It fixes the table as often as it may: the number of the refusal of one fix more, which leaves those that there
-    /// are.
+    /// It fixes the table as many times as it may: the result is the error code of one more fix, after which the other
+    /// fixes are still there.
     FixMost,
     /// It releases a fix.
     Unfix,
 }
 
-/// Puts the object of each key in.
+/// Inserts the object of each key.
 fn put<R: Abort, T: Turns<Global>>(rt: &R, alloc: Global, turns: &mut T, keys: Keys)
     requires { T.is_ready turns.old }
     ensures ready { T.is_ready turns.new }
@@ -96,7 +96,7 @@ fn delete_each<T: Turns<Global>>(turns: &mut T, keys: Keys)
     }
 }
 
-/// How many objects a key has.
+/// Returns the number of objects of a key.
 fn count<R: Abort, T: Turns<Global>>(rt: &R, turns: &mut T, key: u32) -> usize
     requires { T.is_ready turns.old }
     ensures ready { T.is_ready turns.new }
@@ -111,7 +111,7 @@ fn count<R: Abort, T: Turns<Global>>(rt: &R, turns: &mut T, key: u32) -> usize
     count
 }
 
-/// What an answered or refused question for a key comes to; none where there is no key.
+/// Returns the number of the key, or 1,000 plus the error code. Returns `None` if there is no key.
 fn key_of(answered: Result<Option<Term>, Fault>) -> Option<u32> {
     let key = match &answered {
         Ok(Some(key)) => number(key),
@@ -122,7 +122,7 @@ fn key_of(answered: Result<Option<Term>, Fault>) -> Option<u32> {
     key
 }
 
-/// The same of the key behind another.
+/// Returns the key that follows another, or 1,000 plus the error code. Returns `None` if there is no key.
 fn behind<T: Turns<Global>>(turns: &mut T, key: u32) -> Option<u32>
     requires { T.is_ready turns.old }
     ensures ready { T.is_ready turns.new }
@@ -134,7 +134,8 @@ fn behind<T: Turns<Global>>(turns: &mut T, key: u32) -> Option<u32>
     key_of(answered)
 }
 
-/// The number of the refusal of a fix that is one too many, which leaves those that there are at each part.
+/// Fixes the table as many times as possible, and returns the error code of one fix too many. Checks that all the other
+/// fixes are still there, at each part.
 fn limit<R: Abort, T: Turns<Global>>(rt: &R, turns: &mut T) -> u8
     requires { T.is_ready turns.old }
     ensures ready { T.is_ready turns.new }
@@ -147,7 +148,7 @@ fn limit<R: Abort, T: Turns<Global>>(rt: &R, turns: &mut T) -> u8
     fault.number()
 }
 
-/// The number of the refusal of what is done to fixes.
+/// Returns the error code of a change of fixes, or 0.
 fn refusal(changed: Result<(), Fault>) -> u8 {
     match changed {
         Ok(()) => 0,
@@ -155,7 +156,7 @@ fn refusal(changed: Result<(), Fault>) -> u8 {
     }
 }
 
-/// What comes of an act.
+/// Returns the result of an act.
 fn came<R: Abort, T: Turns<Global>>(rt: &R, alloc: Global, turns: &mut T, act: Act) -> usize
     requires { T.is_ready turns.old }
     ensures ready { T.is_ready turns.new }
@@ -179,7 +180,7 @@ fn came<R: Abort, T: Turns<Global>>(rt: &R, alloc: Global, turns: &mut T, act: A
     }
 }
 
-/// The session, once it has done an act of which this has to come.
+/// Has a session perform an act, which has to have the result `wanted`. Returns the session.
 pub(crate) fn acted<R: Wait + Abort, P: Part<Global> + Drop>(
     rt: &R,
     alloc: Global,
@@ -198,7 +199,8 @@ pub(crate) fn acted<R: Wait + Abort, P: Part<Global> + Drop>(
     session
 }
 
-/// The same on a thread of its own, which is joined.
+/// Has a session perform an act on a thread of its own, which is joined. The act has to have the result `wanted`.
+/// Returns the session.
 pub(crate) fn acted_on_a_thread<R: Threads + Wait + Abort + Sync, P: Part<Global> + Drop + Send>(
     rt: &R,
     alloc: Global,
@@ -221,8 +223,8 @@ pub(crate) fn acted_on_a_thread<R: Threads + Wait + Abort + Sync, P: Part<Global
     session
 }
 
-/// Two sessions do an act each side by side, the first on a thread of its own, and nothing comes of either; both come
-/// back.
+/// Has two sessions perform an act each at the same time, the first on a thread of its own. Both acts have to have the
+/// result 0. Returns both sessions.
 pub(crate) fn both_acted<R: Threads + Wait + Abort + Sync, P: Part<Global> + Drop + Send>(
     rt: &R,
     alloc: Global,

@@ -1,5 +1,5 @@
-//! Gates by themselves, closed with the pass of a session that was never used: while the part is at home it comes out
-//! with what another session put in.
+//! Single gates, closed with the pass of a session that was never used: if the part is in the gate, it is returned with
+//! what another session inserted.
 ghost use Rattle.std.specs.Prelude.{◌≡◌, IfSome};
 ghost use Rattle.tables.specs.Sessions.{IsOpened};
 
@@ -17,7 +17,7 @@ use std::sync::Wait;
 use tables::{Options, Session, Table};
 use term_core::Term;
 
-/// The gate of a table of one part, and the pass that a session has there.
+/// Returns the gate of a table of one part, and the pass of a session there.
 fn gate_and_pass<P: Part<Global> + Drop>(
     table: Table<P>,
     session: Session<P>,
@@ -42,7 +42,7 @@ fn gate_and_pass<P: Part<Global> + Drop>(
     Some((gate, pass))
 }
 
-/// The key of the only one of some objects; none where there are others.
+/// Returns the key of the only object, or `None` if there is none or more than one.
 fn only_key(objects: &[Term]) -> Option<u32> {
     match objects {
         [object] => key_of(object),
@@ -50,8 +50,8 @@ fn only_key(objects: &[Term]) -> Option<u32> {
     }
 }
 
-/// The key of the only object of the part that a gate gives out.
-fn key_behind<R: Abort, P: Part<Global> + Drop>(
+/// Closes a gate, and returns the key of the only object of its part.
+fn following_key<R: Abort, P: Part<Global> + Drop>(
     rt: &R,
     alloc: Global,
     gate: Gate<P>,
@@ -67,8 +67,8 @@ fn key_behind<R: Abort, P: Part<Global> + Drop>(
     key
 }
 
-/// A gate, behind which the first of two sessions puts an object in, is closed with the pass of the second one: the
-/// object's key.
+/// Has the first of two sessions insert an object, and closes the gate of its part with the pass of the second one.
+/// Returns the object's key.
 fn closed<R: Wait + Abort, P: Part<Global> + Drop>(
     rt: &R,
     alloc: Global,
@@ -88,7 +88,7 @@ fn closed<R: Wait + Abort, P: Part<Global> + Drop>(
     let Some((gate, pass)) = gate_and_pass(table, second) else {
         rt.panic("no gate")
     };
-    let key = key_behind(rt, alloc, gate, pass);
+    let key = following_key(rt, alloc, gate, pass);
     drop(first);
     key
 }

@@ -1,4 +1,4 @@
-//! What is let go in the middle of its life gives all of its memory back, whichever request for memory is refused.
+//! Values that are dropped in the middle of their use free all of their memory, whichever allocation fails.
 ghost use Rattle.std.specs.Prelude.{◌≡◌};
 
 use crate::objects::query_of;
@@ -12,31 +12,31 @@ use tables::{Turns, delete, fix, lookup, member, take};
 use term_core::Term;
 use walks::{Step, select_limit, select_more};
 
-/// Two objects in each of two parts, and three of one key more, which takes memory.
+/// Two objects in each of two parts, and three of one more key, which needs memory.
 const OBJECTS: &[u8] = b"[{1},{2},{1},{2},{{3}},{{3}},{{3}}].";
 
-/// Each object.
+/// A specification whose answer on each object is the object.
 const EACH: &[u8] = b"[{'_',[],['$_']}].";
 
-/// The objects of keys that are named.
+/// A specification that names keys.
 const NAMED: &[u8] = b"[{{{key,1}},[],['$_']},{{2},[],[{{'$_',again}}]}].";
 
-/// What a session is in the middle of.
+/// In the middle of which action a session is.
 #[derive(Clone, Copy)]
 pub(crate) enum Middle {
-    /// It fixes the table, in which dead rows are.
+    /// It has fixed the table, in which there are dead rows.
     Fix,
-    /// It walks through the table in pieces, of which one is out.
+    /// It walks the table in pieces, of which it has received one.
     OnePiece,
-    /// The same with two.
+    /// It walks the table in pieces, of which it has received two.
     TwoPieces,
-    /// It was given the objects of a key, looked up and taken.
+    /// It has received the objects of a key, by `lookup` and by `take`.
     Reply,
-    /// It has a query that isn't asked.
+    /// It has a query that it has not used.
     Query,
 }
 
-/// Whether a key has no object once it is deleted from a table that is fixed.
+/// Fixes the table, deletes a key, and returns whether the key has no object.
 fn is_deleted<A: Allocator, T: Turns<A>>(turns: &mut T, key: &Term<A>) -> Option<bool>
     requires { T.is_ready turns.old }
     ensures ready { T.is_ready turns.new }
@@ -47,7 +47,7 @@ fn is_deleted<A: Allocator, T: Turns<A>>(turns: &mut T, key: &Term<A>) -> Option
     Some(!member(turns, key))
 }
 
-/// The first step of a walk, which keeps the other objects of a key.
+/// Returns the first step of a walk with pieces of one answer, which keeps the other answers of a key.
 fn first_step<A: Allocator + Copy, T: Turns<A>>(heap: A, turns: &mut T) -> Option<Step<A>>
     requires { T.is_ready turns.old }
     ensures ready { T.is_ready turns.new }
@@ -57,7 +57,7 @@ fn first_step<A: Allocator + Copy, T: Turns<A>>(heap: A, turns: &mut T) -> Optio
     select_limit(heap, turns, query, 1).ok()
 }
 
-/// The step behind a piece, which is let go.
+/// Returns the step after a piece, and drops the piece.
 fn next_step<A: Allocator + Copy, T: Turns<A>>(
     heap: A,
     turns: &mut T,
@@ -80,7 +80,7 @@ fn next_step<A: Allocator + Copy, T: Turns<A>>(
     }
 }
 
-/// Whether a step is a piece of one object, which is let go with the walk behind it.
+/// Returns whether a step is a piece of one object, and drops it with the rest of the walk.
 fn is_piece<A: Allocator>(step: Step<A>) -> bool {
     let is_piece = match &step {
         Step::Piece(piece, _) => piece.len() == 1,
@@ -90,7 +90,7 @@ fn is_piece<A: Allocator>(step: Step<A>) -> bool {
     is_piece
 }
 
-/// Whether the first step is a piece.
+/// Returns whether the first step of a walk is a piece.
 fn is_begun<A: Allocator + Copy, T: Turns<A>>(heap: A, turns: &mut T) -> Option<bool>
     requires { T.is_ready turns.old }
     ensures ready { T.is_ready turns.new }
@@ -100,7 +100,7 @@ fn is_begun<A: Allocator + Copy, T: Turns<A>>(heap: A, turns: &mut T) -> Option<
     Some(is_piece(step))
 }
 
-/// Whether the second is.
+/// Returns whether the second step of a walk is a piece.
 fn is_gone_on<A: Allocator + Copy, T: Turns<A>>(heap: A, turns: &mut T) -> Option<bool>
     requires { T.is_ready turns.old }
     ensures ready { T.is_ready turns.new }
@@ -111,7 +111,7 @@ fn is_gone_on<A: Allocator + Copy, T: Turns<A>>(heap: A, turns: &mut T) -> Optio
     Some(is_piece(second))
 }
 
-/// Whether three objects of a key are looked up, and so many taken; all are let go.
+/// Returns whether three objects of a key are looked up, and three are taken. Drops all of them.
 fn are_given<A: Allocator, T: Turns<A>>(turns: &mut T, key: &Term<A>) -> Option<bool>
     requires { T.is_ready turns.old }
     ensures ready { T.is_ready turns.new }
@@ -130,14 +130,15 @@ fn are_given<A: Allocator, T: Turns<A>>(turns: &mut T, key: &Term<A>) -> Option<
     are_given
 }
 
-/// Whether there is a query, which is let go.
+/// Makes a query that names keys, and drops it.
 fn is_query<A: Allocator + Copy>(heap: A) -> Option<bool> {
     let query = query_of(heap, NAMED)?;
     drop(query);
     Some(true)
 }
 
-/// Whether a session that puts objects in comes so far; none for want of memory.
+/// Has a session insert these objects, and returns whether it gets into the middle of the action. Returns `None` if
+/// memory runs out.
 fn is_reached_by<A: Allocator + Copy, T: Turns<A>>(
     heap: A,
     turns: &mut T,
@@ -160,7 +161,8 @@ fn is_reached_by<A: Allocator + Copy, T: Turns<A>>(
     }
 }
 
-/// The same of its own objects.
+/// Has a session insert objects of its own, and returns whether it gets into the middle of the action. Returns `None`
+/// if memory runs out.
 pub(crate) fn is_reached<A: Allocator + Copy, T: Turns<A>>(
     heap: A,
     turns: &mut T,
@@ -176,7 +178,8 @@ pub(crate) fn is_reached<A: Allocator + Copy, T: Turns<A>>(
     is_reached
 }
 
-/// A session in the middle of something at a bag of two hashed parts, of which this becomes.
+/// Returns a trial with a session in the middle of an action, at a bag of two hashed parts that is then dropped in this
+/// way.
 const fn middle_of(home: Home, middle: Middle) -> Trial {
     Trial {
         sort: Sort::Hashed,
@@ -187,7 +190,8 @@ const fn middle_of(home: Home, middle: Middle) -> Trial {
     }
 }
 
-/// Whether each of these leaves no block at both sorts of tables that aren't closed.
+/// Returns whether two actions leave no block allocated, at a table with gates and at one on one thread, neither of
+/// which is closed.
 fn leak_nothing<R: Wait>(rt: &R, alloc: Global, one: Middle, other: Middle) -> bool {
     is_swept(rt, alloc, middle_of(Home::Gates, one))
         && is_swept(rt, alloc, middle_of(Home::Gates, other))

@@ -1,5 +1,5 @@
-//! Fixes at a table whose parts have gates: a dead row stays as long as some session fixes the table, and goes with the
-//! last fix, also where its session leaves without releasing it.
+//! Fixes at a table whose parts have gates: a dead row stays as long as some session fixes the table. It is removed
+//! with the last fix, also if its session leaves without releasing it.
 use crate::acts::{Act, Keys, REFUSED, acted, only};
 use crate::pairs::opened;
 use part_core::{Part, TableKind};
@@ -9,29 +9,31 @@ use std::process::Abort;
 use std::sync::Wait;
 use tables::Options;
 
-/// A set of one part and two sessions.
-const OPTIONS: Options = Options {
-    name: 1,
-    kind: TableKind::Set,
-    keypos: 1,
-    parts: 1,
-    sessions: 2,
-};
+/// Returns the options of a set with two sessions.
+const fn options_of(parts: u8) -> Options {
+    Options {
+        name: 1,
+        kind: TableKind::Set,
+        keypos: 1,
+        parts,
+        sessions: 2,
+    }
+}
 
-/// What a question for the key behind one without a row comes to.
+/// The result of a request for the key that follows one without a row.
 const NO_ROW: usize = REFUSED as usize + 53;
 
-/// Its keys.
+/// The keys of the set. Of several parts each is in one of its own, and neither in the first.
 const KEYS: Keys = Keys {
     first: 1,
     apart: 1,
     count: 2,
 };
 
-/// Both sessions fix, the first deletes a key and releases its fix: it is answered behind the dead row, until the
-/// second has left with its fix.
-fn a_dead_row_is_kept<R: Wait + Abort, P: Part<Global> + Drop>(rt: &R, alloc: Global) {
-    let Some((table, first, second)) = opened::<Global, P>(alloc, OPTIONS) else {
+/// Both sessions fix; the first deletes a key and releases its fix. It gets the key after the dead row, until the
+/// second has left with its fix, which is released at each part.
+fn a_dead_row_is_kept<R: Wait + Abort, P: Part<Global> + Drop>(rt: &R, alloc: Global, parts: u8) {
+    let Some((table, first, second)) = opened::<Global, P>(alloc, options_of(parts)) else {
         rt.panic("no table")
     };
     let first = acted(rt, alloc, &table, first, Act::Put(KEYS), 0);
@@ -46,10 +48,10 @@ fn a_dead_row_is_kept<R: Wait + Abort, P: Part<Global> + Drop>(rt: &R, alloc: Gl
     drop(table);
 }
 
-/// The second fixes as often as it may, deletes a key and leaves: the first is answered behind the dead row before
-/// that, and not afterwards.
+/// The second session fixes as many times as it may, deletes a key and leaves. The first gets the key after the dead
+/// row before that, and not afterwards.
 fn the_most_fixes_go<R: Wait + Abort, P: Part<Global> + Drop>(rt: &R, alloc: Global) {
-    let Some((table, first, second)) = opened::<Global, P>(alloc, OPTIONS) else {
+    let Some((table, first, second)) = opened::<Global, P>(alloc, options_of(1)) else {
         rt.panic("no table")
     };
     let first = acted(rt, alloc, &table, first, Act::Put(KEYS), 0);
@@ -64,6 +66,7 @@ fn the_most_fixes_go<R: Wait + Abort, P: Part<Global> + Drop>(rt: &R, alloc: Glo
 
 #[test]
 fn a_session_that_leaves_releases_its_fixes(rt: HostRuntime) {
-    a_dead_row_is_kept::<_, HashPart<Global>>(&rt, rt.alloc());
+    a_dead_row_is_kept::<_, HashPart<Global>>(&rt, rt.alloc(), 1);
+    a_dead_row_is_kept::<_, HashPart<Global>>(&rt, rt.alloc(), 64);
     the_most_fixes_go::<_, HashPart<Global>>(&rt, rt.alloc());
 }

@@ -1,4 +1,4 @@
-//! The objects that tests put in, their keys, and queries.
+//! The objects that tests insert, their keys, and queries.
 ghost use Rattle.std.specs.Prelude.{◌≡◌};
 
 use kit_rows::{fields, number, put, term_of};
@@ -8,7 +8,7 @@ use tables::{Turns, insert, member};
 use term_core::Term;
 use walks::Query;
 
-/// The object `{Key}`.
+/// Returns the object `{Key}`, or `None` if memory runs out.
 pub(crate) fn object<A: Allocator + Copy>(heap: A, key: i64) -> Option<Term<A>> {
     let Ok(mut elements) = Vec::with_capacity(heap, 1) else {
         return None;
@@ -21,12 +21,12 @@ pub(crate) fn object<A: Allocator + Copy>(heap: A, key: i64) -> Option<Term<A>> 
     }
 }
 
-/// The key of an object.
+/// Returns the key of an object, if it is a number.
 pub(crate) fn key_of<A: Allocator>(object: &Term<A>) -> Option<u32> {
     number(fields(object)?.first()?)
 }
 
-/// Puts the object of a key in.
+/// Inserts the object of a key. Returns `None` if memory runs out.
 pub(crate) fn put_one<A: Allocator + Copy, T: Turns<A>>(
     heap: A,
     turns: &mut T,
@@ -40,7 +40,7 @@ pub(crate) fn put_one<A: Allocator + Copy, T: Turns<A>>(
     insert(turns, object).ok()
 }
 
-/// Puts `{1}` and `{2}` in.
+/// Inserts `{1}` and `{2}`. Returns `None` if memory runs out.
 pub(crate) fn put_both<A: Allocator + Copy, T: Turns<A>>(heap: A, turns: &mut T) -> Option<()>
     requires { T.is_ready turns.old }
     ensures ready { T.is_ready turns.new }
@@ -50,7 +50,7 @@ pub(crate) fn put_both<A: Allocator + Copy, T: Turns<A>>(heap: A, turns: &mut T)
     put_one(heap, turns, 2)
 }
 
-/// Whether a key has an object.
+/// Returns whether a key has an object.
 pub(crate) fn is_there<A: Allocator, T: Turns<A>>(turns: &mut T, key: i64) -> bool
     requires { T.is_ready turns.old }
     ensures ready { T.is_ready turns.new }
@@ -62,7 +62,7 @@ pub(crate) fn is_there<A: Allocator, T: Turns<A>>(turns: &mut T, key: i64) -> bo
     is_there
 }
 
-/// The query of a text.
+/// Returns the query that a text spells, or `None`.
 pub(crate) fn query_of<A: Allocator + Copy>(heap: A, text: &[u8]) -> Option<Query<A>> {
     let term = term_of(heap, text)?;
     let specification = read_spec(heap, &term);

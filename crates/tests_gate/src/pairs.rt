@@ -7,7 +7,7 @@ use part_core::Part;
 use std::alloc::Allocator;
 use tables::{LocalTable, Options, Session, Table};
 
-/// The last two of its sessions, the last behind the other; the rest are let go.
+/// Returns the last two of a table's sessions, the last one second, and drops the others.
 pub(crate) fn last_two<A: Allocator, P: Part<A> + Drop>(
     _table: &Table<P, A>,
     mut sessions: Vec<Session<P, A>, A>,
@@ -29,7 +29,7 @@ pub(crate) fn last_two<A: Allocator, P: Part<A> + Drop>(
     Some((first, second))
 }
 
-/// A table, and the last two of its sessions; the rest are let go.
+/// Opens a table. Returns it with the last two of its sessions, and drops the others.
 pub(crate) fn opened<A: Allocator + Copy, P: Part<A> + Drop>(
     heap: A,
     options: Options,
@@ -47,7 +47,7 @@ pub(crate) fn opened<A: Allocator + Copy, P: Part<A> + Drop>(
     Some((table, first, second))
 }
 
-/// A table on one thread, without objects.
+/// Opens a table on one thread, without objects.
 pub(crate) fn local_table<A: Allocator + Copy, P: Part<A> + Drop>(
     heap: A,
     options: Options,

@@ -1,6 +1,6 @@
-//! Objects put in with each request for memory refused in turn, one after the other until the slots of a part have
-//! doubled and beyond, at tables on one thread and at tables with gates. What is refused comes back as it was handed
-//! in, and the table holds what it held, which is looked at before it is asked again.
+//! Objects inserted with each allocation failing in turn, at tables on one thread and at tables with gates. They are
+//! inserted one after the other until the slots of a part have doubled and beyond. An object that is rejected is
+//! returned unchanged, and the table is unchanged, which is checked before the insertion is tried again.
 ghost use Rattle.std.specs.Prelude.{◌≡◌, ◌<◌, length};
 
 use crate::trials::{Act, Home, Sort, Trial, is_swept};
@@ -12,35 +12,35 @@ use std::sync::Wait;
 use tables::{Turns, delete_object, insert, insert_new, lookup, member};
 use term_core::{Refused, Term};
 
-/// How many keys there are: the 8 slots of a part double where the row behind 32 is made.
+/// The number of keys: the 8 slots of a part double when a row is added to 32.
 const KEYS: u32 = 36;
 
-/// The objects `{{Key},Mark}`, whose keys take memory: one of each key, and then three more of each of two keys, the
-/// last of which is equal to the first.
+/// The objects `{{Key},Mark}`, whose keys need memory: one of each key, and then three more of each of two keys, of
+/// which the last equals the first.
 const OBJECTS: &[u8] =
     b"[{{0},0},{{1},0},{{2},0},{{3},0},{{4},0},{{5},0},{{6},0},{{7},0},{{8},0},{{9},0},{{10},0},
     {{11},0},{{12},0},{{13},0},{{14},0},{{15},0},{{16},0},{{17},0},{{18},0},{{19},0},{{20},0},
     {{21},0},{{22},0},{{23},0},{{24},0},{{25},0},{{26},0},{{27},0},{{28},0},{{29},0},{{30},0},
     {{31},0},{{32},0},{{33},0},{{34},0},{{35},0},{{0},1},{{0},2},{{0},1},{{1},1},{{1},2},{{1},1}].";
 
-/// By which call objects are put in.
+/// The call by which objects are inserted.
 #[derive(Clone, Copy)]
 pub(crate) enum Call {
     Insert,
     InsertNew,
 }
 
-/// What came of an object that is put in.
+/// The result of inserting an object.
 #[derive(Clone, Copy)]
 enum Came {
-    /// What has to come of it; where it was refused, once it was asked for again.
+    /// The result is right; if the object was rejected, that of the second attempt.
     Right,
-    /// It was refused, all requests are refused from then on, and the table holds what it held.
+    /// The object was rejected, all later allocations fail, and the table is unchanged.
     Kept,
     Wrong,
 }
 
-/// What a table of a kind has to hold once so many of the objects were put in by a call.
+/// What a table of a kind has to contain once `count` of the objects were inserted by a call.
 #[derive(Clone, Copy)]
 struct Held {
     kind: TableKind,
@@ -49,7 +49,7 @@ struct Held {
 }
 
 impl Held {
-    /// How many objects of a key were put in.
+    /// Returns how many objects of a key were inserted.
     fn puts(self, key: u32) -> u32 {
         if self.count <= key {
             return 0;
@@ -59,12 +59,12 @@ impl Held {
         if more < 3 { more + 1 } else { 4 }
     }
 
-    /// Whether a key has an object.
+    /// Returns whether a key has an object.
     fn has(self, key: u32) -> bool {
         self.puts(key) != 0
     }
 
-    /// The marks of a key's objects, in the order of time.
+    /// Returns the marks of a key's objects, in the order of insertion.
     fn marks(self, key: u32) -> &'static str {
         let puts = match self.call {
             Call::Insert => self.puts(key),
@@ -73,7 +73,7 @@ impl Held {
         marks_of(self.kind, puts)
     }
 
-    /// What a call has to answer that puts one more object of a key in: whether it is put in.
+    /// Returns what the call has to return for one more object of a key: whether it is inserted.
     fn answer(self, key: u32) -> bool {
         match self.call {
             Call::Insert => true,
@@ -82,8 +82,8 @@ impl Held {
     }
 }
 
-/// The marks that so many objects of a key leave in a table of a kind: of a set the last is left, and of a bag those
-/// that are equal to none before.
+/// Returns the marks of the objects that a table of a kind has after `puts` insertions of a key: the last of a set, and
+/// of a bag those that equal none before.
 fn marks_of(kind: TableKind, puts: u32) -> &'static str {
     match kind {
         TableKind::Set | TableKind::OrderedSet => match puts {
@@ -108,7 +108,7 @@ fn marks_of(kind: TableKind, puts: u32) -> &'static str {
     }
 }
 
-/// The number of a key.
+/// Returns the number in a key.
 fn number_of<A: Allocator>(key: &Term<A>) -> Option<u32> {
     match fields(key)? {
         [only] => number(only),
@@ -116,7 +116,7 @@ fn number_of<A: Allocator>(key: &Term<A>) -> Option<u32> {
     }
 }
 
-/// The key's number and the mark of an object.
+/// Returns the number in the key of an object, and the mark.
 fn numbers_of<A: Allocator>(object: &Term<A>) -> Option<(u32, u32)> {
     match fields(object)? {
         [key, mark] => Some((number_of(key)?, number(mark)?)),
@@ -124,7 +124,7 @@ fn numbers_of<A: Allocator>(object: &Term<A>) -> Option<(u32, u32)> {
     }
 }
 
-/// Whether objects are those of a key that have these marks.
+/// Returns whether these are the objects of a key with these marks.
 fn are_marked<A: Allocator>(objects: &[Term<A>], key: u32, marks: &[u8]) -> bool {
     for (object, mark) in objects.iter().zip(marks) {
         let mark = u32::from(*mark).saturating_sub(u32::from(b'0'));
@@ -135,7 +135,7 @@ fn are_marked<A: Allocator>(objects: &[Term<A>], key: u32, marks: &[u8]) -> bool
     objects.len() == marks.len()
 }
 
-/// Whether a look-up gives what is held of a key; none for want of memory.
+/// Returns whether a look-up gives what the table has to contain of a key, or `None` if memory runs out.
 fn is_found<A: Allocator, T: Turns<A>>(turns: &mut T, key: &Term<A>, held: Held) -> Option<bool>
     requires { T.is_ready turns.old }
     ensures ready { T.is_ready turns.new }
@@ -150,7 +150,8 @@ fn is_found<A: Allocator, T: Turns<A>>(turns: &mut T, key: &Term<A>, held: Held)
     Some(are_marked)
 }
 
-/// Whether look-ups of the keys of all objects give what is held; none for want of memory.
+/// Returns whether look-ups of the keys of all objects give what the table has to contain, or `None` if memory runs
+/// out.
 fn are_found<A: Allocator, T: Turns<A>>(
     turns: &mut T,
     objects: &[Term<A>],
@@ -168,7 +169,7 @@ fn are_found<A: Allocator, T: Turns<A>>(
     Some(true)
 }
 
-/// Whether those keys of all objects have an object of which one is held. Takes no memory.
+/// Returns whether exactly those keys of all objects are members that have to be. Does not allocate.
 fn are_members<A: Allocator, T: Turns<A>>(
     turns: &mut T,
     objects: &[Term<A>],
@@ -187,7 +188,7 @@ fn are_members<A: Allocator, T: Turns<A>>(
     Some(true)
 }
 
-/// Deletes objects.
+/// Deletes these objects from the table.
 fn delete_objects<A: Allocator, T: Turns<A>>(turns: &mut T, objects: &[Term<A>]) -> Option<()>
     requires { T.is_ready turns.old }
     ensures ready { T.is_ready turns.new }
@@ -199,8 +200,8 @@ fn delete_objects<A: Allocator, T: Turns<A>>(turns: &mut T, objects: &[Term<A>])
     Some(())
 }
 
-/// Whether the keys are there that are held, and no object is but those that were put in, which are deleted. Takes no
-/// memory.
+/// Returns whether exactly the keys that have to be are members, and no member is left once the objects that were
+/// inserted are deleted. Does not allocate.
 fn are_all<A: Allocator, T: Turns<A>>(
     turns: &mut T,
     objects: &[Term<A>],
@@ -217,7 +218,7 @@ fn are_all<A: Allocator, T: Turns<A>>(
     Some(are_there && are_gone)
 }
 
-/// Puts an object in, and says whether it was put in or its key had one.
+/// Inserts an object by a call, and returns whether it was inserted or, for `insert_new`, its key had an object.
 fn put_in<A: Allocator, T: Turns<A>>(
     turns: &mut T,
     call: Call,
@@ -236,8 +237,9 @@ fn put_in<A: Allocator, T: Turns<A>>(
     }
 }
 
-/// Whether the table holds what is held, of which all came of the objects `before`. Where a look-up is refused, it is
-/// asked for again, or done without.
+/// Returns whether the table contains what it has to, where all of that is among the objects `before`. If a look-up
+/// runs out of memory, it is tried again; if all later allocations fail too, calls that do not allocate are used
+/// instead.
 fn is_as_held<A: Allocator + Copy, T: Turns<A>>(
     counts: &Failing<Global>,
     turns: &mut T,
@@ -260,12 +262,13 @@ fn is_as_held<A: Allocator + Copy, T: Turns<A>>(
     counts.was_refused() && is_right == Some(true)
 }
 
-/// Whether an object that is refused for want of memory is handed back.
+/// Returns whether an object was rejected because memory ran out, and is returned unchanged.
 fn is_back<A: Allocator>(refused: &Refused<Term<A>, Fault>, object: &Term<A>) -> bool {
     refused.fault == Fault::Memory && refused.value == *object
 }
 
-/// Whether an object whose key is 1 is not put in where that has one: it is let go, or refused for want of memory.
+/// Returns whether `insert_new` does not insert a copy of the object, whose key is 1, if that key has an object. The
+/// copy is dropped, or returned since memory ran out.
 fn is_kept_out<A: Allocator, T: Turns<A>>(turns: &mut T, object: &Term<A>, held: Held) -> bool
     requires { T.is_ready turns.old }
     ensures ready { T.is_ready turns.new }
@@ -286,7 +289,8 @@ fn is_kept_out<A: Allocator, T: Turns<A>>(turns: &mut T, object: &Term<A>, held:
     is_kept_out
 }
 
-/// Whether the table holds what it held where an object is refused, and keeps out one more object whose key has one.
+/// Returns whether the table is unchanged after an object was rejected, and does not accept one more object of a key
+/// that has one.
 fn is_same<A: Allocator + Copy, T: Turns<A>>(
     counts: &Failing<Global>,
     turns: &mut T,
@@ -306,7 +310,7 @@ fn is_same<A: Allocator + Copy, T: Turns<A>>(
     is_out && is_as_held
 }
 
-/// What comes of an object where this is answered.
+/// Returns the result for an object, given what the call returned and what it has to return.
 fn came_of(answered: Option<bool>, answer: bool) -> Came {
     if answered == Some(answer) {
         Came::Right
@@ -315,7 +319,7 @@ fn came_of(answered: Option<bool>, answer: bool) -> Came {
     }
 }
 
-/// Whether an object is that of these numbers by its text.
+/// Returns whether an object has the text `{{Key},Mark}` with these numbers.
 fn is_written<A: Allocator>(alloc: Global, object: &Term<A>, key: u32, mark: u32) -> bool {
     let written = canonical(alloc, object);
     let text = format!(in alloc; "{{{{{key}}},{mark}}}");
@@ -331,8 +335,8 @@ fn is_written<A: Allocator>(alloc: Global, object: &Term<A>, key: u32, mark: u32
     is_written
 }
 
-/// What came of a refused object of which this is answered when it is asked for again, where all was right so far. What
-/// is answered doesn't count where each request is refused.
+/// Returns the result for an object that was rejected, given whether all was right so far and what the second attempt
+/// returned. The latter does not count if all later allocations fail.
 fn came_again(
     counts: &Failing<Global>,
     answered: Option<bool>,
@@ -348,7 +352,8 @@ fn came_again(
     }
 }
 
-/// Whether the object at a place is refused right: it comes back as it was handed in, and the table holds what it held.
+/// Returns whether the object at a place is rejected as it has to be: it is returned unchanged, and the table is
+/// unchanged.
 fn is_refused<A: Allocator + Copy, T: Turns<A>>(
     alloc: Global,
     counts: &Failing<Global>,
@@ -371,7 +376,7 @@ fn is_refused<A: Allocator + Copy, T: Turns<A>>(
     is_back && is_written && is_same
 }
 
-/// Puts the object at a place in, behind those before it.
+/// Inserts the object at a place, after those before it.
 fn put_at<A: Allocator + Copy, T: Turns<A>>(
     alloc: Global,
     counts: &Failing<Global>,
@@ -405,8 +410,8 @@ fn put_at<A: Allocator + Copy, T: Turns<A>>(
     }
 }
 
-/// Puts all objects in, up to one that can't be asked for again. Says whether each came as it has to, and whether all
-/// are there in the end.
+/// Inserts all objects, up to one that can't be tried again. Returns whether the result of each is right, and whether
+/// all are there in the end.
 fn are_all_put<A: Allocator + Copy, T: Turns<A>>(
     alloc: Global,
     counts: &Failing<Global>,
@@ -438,7 +443,8 @@ fn are_all_put<A: Allocator + Copy, T: Turns<A>>(
     is_as_held(counts, turns, objects, objects, held)
 }
 
-/// The same; none where there is no memory for the objects.
+/// Reads the objects and inserts all of them, up to one that can't be tried again. Returns whether all was right, or
+/// `None` if memory runs out for the objects.
 pub(crate) fn are_put<A: Allocator + Copy, T: Turns<A>>(
     alloc: Global,
     heap: A,
@@ -457,7 +463,7 @@ pub(crate) fn are_put<A: Allocator + Copy, T: Turns<A>>(
     Some(are_put)
 }
 
-/// Whether both calls come out right at a table.
+/// Returns whether the trials of both calls are right at a table.
 fn are_right<R: Wait>(rt: &R, alloc: Global, sort: Sort, kind: TableKind, home: Home) -> bool {
     let insert = Trial {
         sort,
@@ -473,7 +479,7 @@ fn are_right<R: Wait>(rt: &R, alloc: Global, sort: Sort, kind: TableKind, home: 
     is_swept(rt, alloc, insert) && is_swept(rt, alloc, insert_new)
 }
 
-/// Whether both do at both sorts of tables.
+/// Returns whether the trials of both calls are right at a table on one thread and at one with gates.
 fn holds<R: Wait>(rt: &R, alloc: Global, sort: Sort, kind: TableKind) -> bool {
     are_right(rt, alloc, sort, kind, Home::Alone) && are_right(rt, alloc, sort, kind, Home::Gates)
 }

@@ -1,4 +1,4 @@
-//! Memory refused in turn where tables are opened and objects put in, and calls that take none.
+//! Allocations that fail in turn when tables are opened and objects are inserted, and calls that never allocate.
 ghost use Rattle.std.specs.Prelude.{◌≡◌, All, [], IfSome};
 ghost use Rattle.tables.specs.Options.{settings_of};
 
@@ -13,7 +13,7 @@ use term_core::Term;
 /// More fixes than a session may have.
 const MOST_FIXES: u32 = 70_000;
 
-/// Whether a table is opened, or refused for want of memory where a request was refused. It is let go.
+/// Returns whether a table was opened if no allocation failed, and rejected as out of memory if one did. Drops it.
 fn is_due<T: Drop>(counts: &Failing<Global>, opened: Result<T, OpenFault>) -> bool {
     let is_due = match &opened {
         Ok(_) => !counts.was_refused(),
@@ -23,7 +23,7 @@ fn is_due<T: Drop>(counts: &Failing<Global>, opened: Result<T, OpenFault>) -> bo
     is_due
 }
 
-/// Whether it is so of a table.
+/// Opens a table, and returns whether it was opened if no allocation failed, and rejected as out of memory if one did.
 pub(crate) fn is_opened<A: Allocator + Copy, P: Part<A> + Drop>(
     heap: A,
     counts: &Failing<Global>,
@@ -32,7 +32,7 @@ pub(crate) fn is_opened<A: Allocator + Copy, P: Part<A> + Drop>(
     is_due(counts, Table::<P, A>::open(heap, options))
 }
 
-/// Puts a part in its opening state behind others.
+/// Appends a part in its opening state. Returns `None` if memory runs out.
 fn put_part<A: Allocator, P: Part<A> + Drop>(
     heap: A,
     options: Options,
@@ -53,7 +53,7 @@ fn put_part<A: Allocator, P: Part<A> + Drop>(
     parts.push(part).ok()
 }
 
-/// Two parts in their opening states.
+/// Returns two parts in their opening states, or `None` if memory runs out.
 fn two_parts<A: Allocator + Copy, P: Part<A> + Drop>(heap: A, options: Options) -> Option<Vec<P, A>>
     ensures { IfSome result (λ parts. All (λ p. (P.settings p ≡ settings_of options) × P.is_after p []) parts.items) }
 {
@@ -68,7 +68,8 @@ fn two_parts<A: Allocator + Copy, P: Part<A> + Drop>(heap: A, options: Options) 
     }
 }
 
-/// Whether it is so of a table over two parts.
+/// Opens a table over two parts, and returns whether it was opened if no allocation failed, and rejected as out of
+/// memory if one did.
 pub(crate) fn is_opened_over<A: Allocator + Copy, P: Part<A> + Drop>(
     heap: A,
     counts: &Failing<Global>,
@@ -80,7 +81,7 @@ pub(crate) fn is_opened_over<A: Allocator + Copy, P: Part<A> + Drop>(
     }
 }
 
-/// Puts `{1}` in, and says whether its key has an object then, or has none where a request was refused.
+/// Inserts `{1}`. Returns whether its key has an object then if no allocation failed, and has none if one did.
 pub(crate) fn is_put<A: Allocator + Copy, T: Turns<A>>(
     heap: A,
     counts: &Failing<Global>,
@@ -105,7 +106,8 @@ pub(crate) fn is_put<A: Allocator + Copy, T: Turns<A>>(
     }
 }
 
-/// How often a session fixes its table before it is refused, and why.
+/// Fixes the table until that is rejected. Returns the number of fixes and the fault, or `None` if 70,000 fixes are
+/// accepted.
 pub(crate) fn most_fixes<A: Allocator, T: Turns<A>>(turns: &mut T) -> Option<(u32, Fault)>
     requires { T.is_ready turns.old }
     ensures ready { T.is_ready turns.new }
@@ -119,7 +121,7 @@ pub(crate) fn most_fixes<A: Allocator, T: Turns<A>>(turns: &mut T) -> Option<(u3
     None
 }
 
-/// Whether calls are answered right that take no memory: `{1}` is there, and so is the object.
+/// Returns whether the results of calls that never allocate are right, in a table that contains `{1}` and the object.
 fn is_answered<A: Allocator, T: Turns<A>>(turns: &mut T, object: &Term<A>, key: &Term<A>) -> bool
     requires { T.is_ready turns.old }
     ensures ready { T.is_ready turns.new }
@@ -144,8 +146,8 @@ fn is_answered<A: Allocator, T: Turns<A>>(turns: &mut T, object: &Term<A>, key: 
         && is_limited
 }
 
-/// Puts both in; then whether calls are answered right that take no memory, with the key of the first object and
-/// another object that is equal to the second, where each request is refused from then on, too.
+/// Inserts `{1}` and `{2}`. Returns whether the results of calls that never allocate are then right, and no allocation
+/// failed, also with all later allocations failing. Returns `None` if memory runs out before these calls.
 pub(crate) fn is_spare<A: Allocator + Copy, T: Turns<A>>(
     heap: A,
     counts: &Failing<Global>,
@@ -164,7 +166,7 @@ pub(crate) fn is_spare<A: Allocator + Copy, T: Turns<A>>(
     Some(is_answered && !counts.was_refused())
 }
 
-/// Puts both in and fixes the table.
+/// Inserts `{1}` and `{2}`, and fixes the table. Returns `None` if memory runs out.
 pub(crate) fn is_fixed<A: Allocator + Copy, T: Turns<A>>(heap: A, turns: &mut T) -> Option<bool>
     requires { T.is_ready turns.old }
     ensures ready { T.is_ready turns.new }
@@ -174,7 +176,7 @@ pub(crate) fn is_fixed<A: Allocator + Copy, T: Turns<A>>(heap: A, turns: &mut T)
     Some(fix(turns).is_ok())
 }
 
-/// At a set of two hashed parts.
+/// Returns a trial at a set of two hashed parts.
 const fn at_set(home: Home, act: Act) -> Trial {
     Trial {
         sort: Sort::Hashed,

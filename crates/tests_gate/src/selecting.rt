@@ -1,4 +1,4 @@
-//! A whole walk at a table whose parts have gates, with each request for memory refused in turn.
+//! A whole walk at a table whose parts have gates, with each allocation failing in turn.
 ghost use Rattle.tables.specs.Sessions.{IsOpened};
 
 use crate::objects::query_of;
@@ -11,10 +11,10 @@ use tables::{Session, Table, Turns};
 use walk_laws::select_at;
 use walks::Query;
 
-/// All keys.
+/// A specification whose answer on each object is its key in a tuple.
 const KEYS: &[u8] = b"[{{'$1'},[],[{{'$1'}}]}].";
 
-/// Whether a session fixes each part once.
+/// Returns whether a session fixes each part once.
 fn is_fixed_once<A: Allocator, T: Turns<A>>(turns: &T) -> bool
     requires { T.is_ready turns.now }
 {
@@ -26,7 +26,8 @@ fn is_fixed_once<A: Allocator, T: Turns<A>>(turns: &T) -> bool
     true
 }
 
-/// How many answers a walk gives, none where it is refused, and whether its session keeps its one fix.
+/// Makes a walk. Returns the session, the number of answers (`None` if the walk failed), and whether the session still
+/// has its one fix.
 fn walked<R: Wait, A: Allocator + Copy, P: Part<A> + Drop>(
     rt: &R,
     heap: A,
@@ -49,8 +50,8 @@ fn walked<R: Wait, A: Allocator + Copy, P: Part<A> + Drop>(
     (session, count, keeps)
 }
 
-/// Whether a walk answers both objects, asked again where it is refused, and its session keeps its one fix in between
-/// and afterwards. Refused again it may be where each request is refused.
+/// Returns whether a walk gives both objects, tried again if it fails, and its session has its one fix in between and
+/// afterwards. The second attempt may fail too if all later allocations fail.
 fn is_walked<R: Wait, A: Allocator + Copy, P: Part<A> + Drop>(
     rt: &R,
     heap: A,
@@ -75,7 +76,7 @@ fn is_walked<R: Wait, A: Allocator + Copy, P: Part<A> + Drop>(
     is_right && keeps && still_keeps && counts.was_refused()
 }
 
-/// The same by its own query, or that there is no memory for it.
+/// Makes a query, and returns whether a walk by it is right; or whether an allocation failed if there is no query.
 pub(crate) fn is_selected<R: Wait, A: Allocator + Copy, P: Part<A> + Drop>(
     rt: &R,
     heap: A,

@@ -1,21 +1,21 @@
-//! Threads that sleep, as the system tells it.
+//! Threads that sleep, as the system reports it.
 use kit_members::LOOKS;
 use std::alloc::Alloc;
 use std::fs::{self, Files};
 use std::sync::atomic::{AtomicU64, Ordering};
 use std::thread::yield_now;
 
-/// Whether a thread sleeps that says which it is.
-// What is sent to a thread may rest on a trait of one's own, and not on a bound `Files`.
+/// Detects whether a thread sleeps that has reported which one it is.
+// A trait of one's own is used since what is sent to a thread may depend on it, and not on a bound `Files`.
 pub(crate) trait SleepWatch {
-    /// Says which thread calls.
+    /// Records the calling thread as the one to watch.
     fn tell(&self);
 
-    /// Whether that thread sleeps within so many looks.
+    /// Returns whether that thread sleeps within a limited number of checks.
     fn falls_asleep(&self) -> bool;
 }
 
-/// The same, as the system says it of the number that it has for the thread.
+/// A watch that gets the thread's number and state from the system.
 #[derive(Drop)]
 pub(crate) struct SystemWatch<'a, R> {
     files: &'a R,
@@ -23,7 +23,7 @@ pub(crate) struct SystemWatch<'a, R> {
 }
 
 impl<'a, R> SystemWatch<'a, R> {
-    /// A watch over a thread that hasn't said which it is.
+    /// Returns a watch over a thread that has not reported which one it is.
     pub(crate) fn new(files: &'a R) -> Self {
         SystemWatch {
             files,
@@ -32,7 +32,7 @@ impl<'a, R> SystemWatch<'a, R> {
     }
 }
 
-/// The number that the system has for the thread that asks; none where it doesn't tell.
+/// Returns the system's number of the calling thread, or `None` if the system does not report it.
 fn own_number<R: Files + Alloc>(rt: &R) -> Option<u64> {
     let line = fs::read_to_string(rt, "/proc/thread-self/stat").ok()?;
     match line.split_once(' ') {
@@ -41,7 +41,7 @@ fn own_number<R: Files + Alloc>(rt: &R) -> Option<u64> {
     }
 }
 
-/// Whether the thread of a number sleeps until it is woken.
+/// Returns whether the thread with this number sleeps until it is woken.
 fn sleeps<R: Files + Alloc>(rt: &R, number: u64) -> bool {
     let Ok(path) = format!(in rt.alloc(); "/proc/self/task/{number}/stat") else {
         return false;

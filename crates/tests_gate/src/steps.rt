@@ -1,4 +1,4 @@
-//! Sessions that find what others put in, one on a thread behind the other, and side by side.
+//! Sessions that find what others inserted, on one thread after the other and at the same time.
 use crate::acts::{Act, Keys, acted_on_a_thread, both_acted, only};
 use crate::objects::key_of;
 use crate::pairs::opened;
@@ -19,7 +19,7 @@ const BOTH: Keys = Keys {
     apart: 1,
     count: 2,
 };
-/// The keys that each of two sessions puts in beside the other.
+/// The keys that one of two sessions inserts while the other inserts others.
 const EVEN: Keys = Keys {
     first: 0,
     apart: 2,
@@ -28,7 +28,7 @@ const EVEN: Keys = Keys {
 
 const ODD: Keys = Keys { first: 1, ..EVEN };
 
-/// What a set is opened with.
+/// Returns the options of a set.
 fn options(parts: u8, sessions: u8) -> Options {
     Options {
         name: 1,
@@ -39,7 +39,8 @@ fn options(parts: u8, sessions: u8) -> Options {
     }
 }
 
-/// The first key of the objects of the part that comes out next, 0 where there is none, and how many they are.
+/// Takes the next part out of a closed table. Returns the first key of its objects, 0 if there is none, and their
+/// number.
 fn next_left<R: Abort, P: Part<Global> + Drop>(
     rt: &R,
     alloc: Global,
@@ -54,7 +55,7 @@ fn next_left<R: Abort, P: Part<Global> + Drop>(
     left
 }
 
-/// The key of the first of some objects, 0 where there is none.
+/// Returns the key of the first of some objects, 0 if there is none.
 fn first_key<R: Abort>(rt: &R, objects: &[Term]) -> u32 {
     match objects.first() {
         Some(object) => key_of(object).expect(rt, "a key that is a number"),
@@ -62,8 +63,8 @@ fn first_key<R: Abort>(rt: &R, objects: &[Term]) -> u32 {
     }
 }
 
-/// The first key of the part that comes out first, how many objects it has and how many the other one, and whether
-/// there is no third.
+/// Takes the parts out of a closed table. Returns the first key of the first part, its number of objects, that of the
+/// second part, and whether there is a third part.
 fn left<R: Abort, P: Part<Global> + Drop>(
     rt: &R,
     alloc: Global,
@@ -77,8 +78,8 @@ fn left<R: Abort, P: Part<Global> + Drop>(
     (first_key, last, first, !is_third)
 }
 
-/// The first session puts 1 and 2 in; the second finds 1 and deletes 2; they meet, and the table is closed with the
-/// second: what is left.
+/// The first session inserts 1 and 2; the second finds 1 and deletes 2; they meet, and the table is closed with the
+/// second. Returns what is left.
 fn in_turn<R: Threads + Wait + Abort + Sync, P: Part<Global> + Drop + Send>(
     rt: &R,
     alloc: Global,
@@ -95,7 +96,7 @@ fn in_turn<R: Threads + Wait + Abort + Sync, P: Part<Global> + Drop + Send>(
     left
 }
 
-/// A session that was not used so far closes a table in which another put two objects: what is left.
+/// A session that was not used closes a table into which another inserted two objects. Returns what is left.
 fn closed_by_another<R: Threads + Wait + Abort + Sync, P: Part<Global> + Drop + Send>(
     rt: &R,
     alloc: Global,
@@ -108,7 +109,7 @@ fn closed_by_another<R: Threads + Wait + Abort + Sync, P: Part<Global> + Drop + 
     left(rt, alloc, table.close(second))
 }
 
-/// Two sessions put objects in side by side: how many are left.
+/// Two sessions insert objects at the same time. Returns how many are left.
 fn side_by_side<R: Threads + Wait + Abort + Sync, P: Part<Global> + Drop + Send>(
     rt: &R,
     alloc: Global,

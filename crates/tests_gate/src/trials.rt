@@ -1,5 +1,5 @@
-//! What a session does at a table that is opened for it, and what becomes of the table, with each request for memory
-//! refused in turn, alone and with all behind it.
+//! What a session does at a table that is opened for it, and what becomes of the table, with each allocation failing in
+//! turn, alone and together with all later ones.
 ghost use Rattle.std.specs.Prelude.{◌≡◌};
 ghost use Rattle.tables.specs.Sessions.{IsOpened};
 
@@ -18,10 +18,10 @@ use std::alloc::{Allocator, Global};
 use std::sync::Wait;
 use tables::{Options, Session, Table, Turns};
 
-/// How often a sweep runs at most.
+/// The maximal number of runs of a sweep.
 const RUNS: u64 = 2_000;
 
-/// Which parts a table has.
+/// The sort of a table's parts.
 #[derive(Clone, Copy)]
 pub(crate) enum Sort {
     Plain,
@@ -32,37 +32,37 @@ pub(crate) enum Sort {
 /// What a session does.
 #[derive(Clone, Copy)]
 pub(crate) enum Act {
-    /// Nothing, where its table is only opened.
+    /// Nothing, since its table is only opened.
     Nothing,
-    /// It puts objects in by a call, one after the other.
+    /// It inserts objects by a call, one after the other.
     Put(Call),
-    /// It puts one object in.
+    /// It inserts one object.
     PutOne,
-    /// It puts objects in and fixes the table.
+    /// It inserts objects and fixes the table.
     Fix,
-    /// It comes into the middle of something.
+    /// It gets into the middle of an action.
     Reach(Middle),
-    /// It makes calls that take no memory.
+    /// It makes calls that never allocate.
     Spare,
 }
 
-/// Which table it is, and what becomes of it behind its session.
+/// Which table it is, and what becomes of it after its session.
 #[derive(Clone, Copy)]
 pub(crate) enum Home {
-    /// One on one thread, which is let go.
+    /// One on one thread, which is dropped.
     Alone,
-    /// One with gates, which is let go as it is opened: no session does anything.
+    /// One with gates, which is dropped as it is opened: no session does anything.
     Opened,
-    /// The same over parts that are handed in.
+    /// One with gates over parts that the caller gives, which is dropped as it is opened.
     OpenedOver,
-    /// One with gates, which is let go with its sessions, none of which leaves.
+    /// One with gates, which is dropped with its sessions, none of which leaves.
     Gates,
-    /// One with gates that is closed by another session, while the first doesn't leave, and let go behind so many of
-    /// its parts.
+    /// One with gates, which another session closes although the first does not leave, and which is dropped after this
+    /// many of its parts were taken out.
     Closed(u8),
-    /// One with gates that is closed by another session, which the first meets before it leaves.
+    /// One with gates, which another session closes after the first has met it and left.
     Left,
-    /// One with gates in which the session walks, and which is let go.
+    /// One with gates in which the session walks, and which is dropped.
     Walked,
 }
 
@@ -77,7 +77,7 @@ pub(crate) struct Trial {
 }
 
 impl Trial {
-    /// What its table is opened with: one session more than are used.
+    /// Returns the options of the table, with one session more than are used.
     fn options(self) -> Options
         ensures { result.sessions ≡ 3 }
     {
@@ -91,7 +91,7 @@ impl Trial {
     }
 }
 
-/// Whether a session does what it has to; none for want of memory.
+/// Returns whether a session does what it has to, or `None` if memory runs out.
 fn is_done<A: Allocator + Copy, T: Turns<A>>(
     alloc: Global,
     heap: A,
@@ -113,7 +113,8 @@ fn is_done<A: Allocator + Copy, T: Turns<A>>(
     }
 }
 
-/// The same in a session of a table with gates, which comes back.
+/// Has a session of a table with gates do its act. Returns the session, and whether it did what it has to, or `None` if
+/// memory ran out.
 fn done_in<R: Wait, A: Allocator + Copy, P: Part<A> + Drop>(
     rt: &R,
     alloc: Global,
@@ -132,7 +133,7 @@ fn done_in<R: Wait, A: Allocator + Copy, P: Part<A> + Drop>(
     (session, is_done)
 }
 
-/// How many parts come out, up to so many; the others are let go.
+/// Takes parts out of a closed table, at most `most`, and returns their number. Drops the others.
 fn parts_out<A: Allocator, P: Part<A> + Drop>(closed: Closed<P, A>, most: u8) -> u8 {
     let mut closed = closed;
     for out in 0..most {
@@ -148,8 +149,8 @@ fn parts_out<A: Allocator, P: Part<A> + Drop>(closed: Closed<P, A>, most: u8) ->
     most
 }
 
-/// Whether two sessions meet, the first leaves with its fixes, and both parts come out where the table is closed with
-/// the other, and no third, also where each request is refused.
+/// Has two sessions meet, and the first leave with its fixes. Returns whether exactly two parts are then taken out of
+/// the table, closed with the other session, and no allocation failed.
 fn is_left<R: Wait, A: Allocator + Copy, P: Part<A> + Drop>(
     rt: &R,
     counts: &Failing<Global>,
@@ -167,7 +168,7 @@ fn is_left<R: Wait, A: Allocator + Copy, P: Part<A> + Drop>(
     parts_out(table.close(other), 3) == 2 && !counts.was_refused()
 }
 
-/// Whether a table can be let go as it has to be, and what comes before that is right.
+/// Does with a table what its trial says, and returns whether the results of that are right.
 fn is_let_go<R: Wait, A: Allocator + Copy, P: Part<A> + Drop>(
     rt: &R,
     heap: A,
@@ -202,7 +203,8 @@ fn is_let_go<R: Wait, A: Allocator + Copy, P: Part<A> + Drop>(
     }
 }
 
-/// Whether a session does what it has to at a table with gates, which can then be let go; none for want of memory.
+/// Returns whether a session does what it has to at a table with gates, and the table is then dropped or closed as it
+/// has to be. Returns `None` if memory runs out.
 fn is_done_at<R: Wait, A: Allocator + Copy, P: Part<A> + Drop>(
     rt: &R,
     alloc: Global,
@@ -219,7 +221,7 @@ fn is_done_at<R: Wait, A: Allocator + Copy, P: Part<A> + Drop>(
     }
 }
 
-/// The same at a table on one thread.
+/// Returns whether a session does what it has to at a table on one thread, or `None` if memory runs out.
 fn is_done_alone<A: Allocator + Copy, P: Part<A> + Drop>(
     alloc: Global,
     heap: A,
@@ -233,7 +235,7 @@ fn is_done_alone<A: Allocator + Copy, P: Part<A> + Drop>(
     is_done
 }
 
-/// The same at one of the two.
+/// Returns whether a trial is right, at the table that it names, or `None` if memory runs out.
 fn is_done_by<R: Wait, A: Allocator + Copy, P: Part<A> + Drop>(
     rt: &R,
     alloc: Global,
@@ -251,7 +253,7 @@ fn is_done_by<R: Wait, A: Allocator + Copy, P: Part<A> + Drop>(
     }
 }
 
-/// Whether a session does what it has to at a table of a trial, by an allocator that may refuse.
+/// Returns whether a trial is right, over an allocator that may fail, or `None` if memory runs out.
 fn is_done_with<R: Wait>(
     rt: &R,
     alloc: Global,
@@ -271,7 +273,7 @@ fn is_done_with<R: Wait>(
     }
 }
 
-/// Whether a trial comes out right, or there is no memory for it where a request was refused, and no block is left.
+/// Returns whether a trial is right, or ran out of memory after an allocation failed; no block may be left allocated.
 fn is_right<R: Wait>(rt: &R, alloc: Global, heap: &Failing<Global>, trial: Trial) -> bool {
     let is_right = match is_done_with(rt, alloc, heap, trial) {
         Some(is_done) => is_done,
@@ -280,7 +282,7 @@ fn is_right<R: Wait>(rt: &R, alloc: Global, heap: &Failing<Global>, trial: Trial
     is_right && heap.blocks() == 0
 }
 
-/// Whether a trial comes out right with each request refused in turn, alone and with all behind it.
+/// Returns whether a trial is right with each allocation failing in turn, alone and together with all later ones.
 pub(crate) fn is_swept<R: Wait>(rt: &R, alloc: Global, trial: Trial) -> bool {
     let alone = sweep(alloc, RUNS, |heap: &Failing<Global>| {
         is_right(rt, alloc, heap, trial)

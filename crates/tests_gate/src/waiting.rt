@@ -25,7 +25,7 @@ const OPTIONS: Options = Options {
     sessions: 2,
 };
 
-/// One part, which says when it is out, and keeps its session until another sleeps.
+/// Returns one part, which sets a flag when it is taken out, and keeps its session until another one sleeps.
 fn kept_part<R: Abort, P: Part<Global> + Drop>(
     rt: &R,
     alloc: Global,
@@ -41,7 +41,8 @@ fn kept_part<R: Abort, P: Part<Global> + Drop>(
     parts
 }
 
-/// A session asks for a key when the part is out, and a third thread says when it sleeps. The session comes back.
+/// A session requests a key when the part is taken out, and a third thread sets a flag when the session sleeps. Returns
+/// the session.
 fn asked_and_slept<
     R: Threads + Wait + Abort + Sync,
     P: Part<Global> + Drop + Send,
@@ -73,7 +74,8 @@ fn asked_and_slept<
     session
 }
 
-/// A session asks for a key; while it has the part out, another asks and falls asleep. That one comes back.
+/// A session requests a key; while it has the part out, another session makes a request and falls asleep. Returns the
+/// latter.
 fn asked_while_out<
     R: Threads + Wait + Abort + Sync,
     P: Part<Global> + Drop + Send,
@@ -107,7 +109,7 @@ fn asked_while_out<
     second
 }
 
-/// Whether a session got a part for which it slept, and the other saw that it slept.
+/// Returns whether a session got a part for which it slept, and the other session saw that it slept.
 fn is_woken<R: Threads + Wait + Abort + Sync, P: Part<Global> + Drop + Send, W: SleepWatch + Sync>(
     rt: &R,
     alloc: Global,

@@ -1,5 +1,5 @@
-//! A walk whose table another session empties meanwhile, on a thread of its own, and which no other session carries on;
-//! and a visit out of place.
+//! A walk whose table another session empties meanwhile, on a thread of its own, and which no other session can go on
+//! with; and a visit with a cursor outside its range.
 ghost use Rattle.std.specs.Prelude.{◌≡◌, ◌<◌};
 ghost use Rattle.tables.specs.Sessions.{IsOpened};
 
@@ -17,14 +17,14 @@ use tables::{Options, Session, Table, Turns};
 use term_core::Term;
 use walks::{Continuation, Query, Step, WalkFault, select_limit, select_more};
 
-/// Keys that are so far apart that all stand in one slot however many slots there are.
+/// Keys at such distances that all are in one slot, whatever the number of slots.
 const KEYS: Keys = Keys {
     first: 0,
     apart: 65_536,
     count: 1_000,
 };
 
-/// What a set of one part is opened with.
+/// The options of a set of one part.
 const OPTIONS: Options = Options {
     name: 1,
     kind: TableKind::Set,
@@ -33,7 +33,7 @@ const OPTIONS: Options = Options {
     sessions: 2,
 };
 
-/// A session deletes all keys and leaves, on a thread of its own, which is joined.
+/// Has a session delete all keys and leave, on a thread of its own, which is joined.
 fn deleted_on_a_thread<R: Threads + Wait + Abort + Sync, P: Part<Global> + Drop + Send>(
     rt: &R,
     alloc: Global,
@@ -54,12 +54,12 @@ fn deleted_on_a_thread<R: Threads + Wait + Abort + Sync, P: Part<Global> + Drop 
     );
 }
 
-/// The query of all keys.
+/// Returns the query whose answer on each object is its key.
 fn keys_query<R: Abort>(rt: &R, alloc: Global) -> Query {
     query_of(alloc, b"[{{'$1'},[],['$1']}].").expect(rt, "a query")
 }
 
-/// Whether a piece is one key, that of this place.
+/// Returns whether a piece is one key, the one at this place.
 fn is_piece(piece: &[Term], place: u32) -> bool {
     match piece {
         [answer] => number(answer) == Some(KEYS.at(place)),
@@ -67,8 +67,8 @@ fn is_piece(piece: &[Term], place: u32) -> bool {
     }
 }
 
-/// The walk behind a piece, which has to be the key of this place; none where the walk is over.
-fn walk_behind<R: Abort>(rt: &R, step: Step, place: u32) -> Option<Continuation> {
+/// Returns the walk after a piece, which has to be the key at this place, or `None` if the walk has ended.
+fn walk_after<R: Abort>(rt: &R, step: Step, place: u32) -> Option<Continuation> {
     match step {
         Step::Piece(piece, walk) => {
             assert!(rt; is_piece(piece.as_slice(), place));
@@ -82,7 +82,7 @@ fn walk_behind<R: Abort>(rt: &R, step: Step, place: u32) -> Option<Continuation>
     }
 }
 
-/// The walk behind its first piece.
+/// Begins a walk, and returns it after its first piece.
 fn begun<R: Abort, T: Turns<Global>>(rt: &R, alloc: Global, turns: &mut T) -> Continuation
     requires { T.is_ready turns.old }
     ensures ready { T.is_ready turns.new }
@@ -90,10 +90,10 @@ fn begun<R: Abort, T: Turns<Global>>(rt: &R, alloc: Global, turns: &mut T) -> Co
 {
     let query = keys_query(rt, alloc);
     let step = select_limit(alloc, turns, query, 1).ok();
-    walk_behind(rt, step.expect(rt, "a step"), 0).expect(rt, "a piece")
+    walk_after(rt, step.expect(rt, "a step"), 0).expect(rt, "a piece")
 }
 
-/// The walk behind its next piece.
+/// Makes the next piece of a walk, and returns the walk after it.
 fn next_walk<R: Abort, T: Turns<Global>>(
     rt: &R,
     alloc: Global,
@@ -106,10 +106,10 @@ fn next_walk<R: Abort, T: Turns<Global>>(
     ensures same { T.home turns.new ≡ T.home turns.old }
 {
     let step = select_more(alloc, turns, walk).ok();
-    walk_behind(rt, step.expect(rt, "a step"), place)
+    walk_after(rt, step.expect(rt, "a step"), place)
 }
 
-/// A walk that is refused as another's, and handed back.
+/// Goes on with a walk of another session or table, which has to be rejected. Returns the walk.
 fn refused_as_anothers<R: Abort, T: Turns<Global>>(
     rt: &R,
     alloc: Global,
@@ -126,7 +126,7 @@ fn refused_as_anothers<R: Abort, T: Turns<Global>>(
     refused.value
 }
 
-/// The same at a session of a table that is another's, or another table's.
+/// Goes on with a walk at a session of another number or of another table, which has to be rejected. Returns the walk.
 fn refused_at<R: Wait + Abort, P: Part<Global> + Drop>(
     rt: &R,
     alloc: Global,
@@ -141,7 +141,8 @@ fn refused_at<R: Wait + Abort, P: Part<Global> + Drop>(
     refused_as_anothers(rt, alloc, &mut at, walk)
 }
 
-/// How many further pieces are the keys that follow, one each, before the walk ends; none where it doesn't.
+/// Goes on with a walk to its end, checks that each piece is the key that follows, and returns the number of pieces.
+/// Returns `None` if the walk does not end.
 fn gone_on<R: Abort, T: Turns<Global>>(
     rt: &R,
     alloc: Global,
@@ -163,7 +164,7 @@ fn gone_on<R: Abort, T: Turns<Global>>(
     None
 }
 
-/// The walk, once a session of a table of another name was refused to carry it on.
+/// Returns the walk once a session of a table with another name was not allowed to go on with it.
 fn refused_elsewhere<R: Wait + Abort, P: Part<Global> + Drop>(
     rt: &R,
     alloc: Global,
@@ -180,8 +181,8 @@ fn refused_elsewhere<R: Wait + Abort, P: Part<Global> + Drop>(
     walk
 }
 
-/// How many pieces follow the first where another session, which is refused to carry the walk on, deletes all keys
-/// meanwhile.
+/// Returns how many pieces follow the first if another session, which is not allowed to go on with the walk, deletes
+/// all keys meanwhile.
 fn outlasted<R: Threads + Wait + Abort + Sync, P: Part<Global> + Drop + Send>(
     rt: &R,
     alloc: Global,
@@ -204,7 +205,8 @@ fn outlasted<R: Threads + Wait + Abort + Sync, P: Part<Global> + Drop + Send>(
     pieces
 }
 
-/// The same of two sessions of a table that has the keys, of which the walking one fixes it.
+/// Opens a table with the keys, which the walking session fixes. Returns how many pieces follow the first if the other
+/// session deletes all keys meanwhile.
 fn outlasting<R: Threads + Wait + Abort + Sync, P: Part<Global> + Drop + Send>(
     rt: &R,
     alloc: Global,
@@ -219,7 +221,7 @@ fn outlasting<R: Threads + Wait + Abort + Sync, P: Part<Global> + Drop + Send>(
     pieces
 }
 
-/// Whether a visit is refused as out of place, and comes back.
+/// Returns whether a visit is rejected since its cursor is outside its range, and is returned.
 fn is_refused<'q, T: Turns<Global>>(turns: &mut T, query: &'q Query, scope: Scope<'q>) -> bool
     requires ready { T.is_ready turns.old }
     requires parts { 0 < (T.home turns.old).options.parts }
@@ -238,7 +240,7 @@ fn is_refused<'q, T: Turns<Global>>(turns: &mut T, query: &'q Query, scope: Scop
     is_outside && is_back
 }
 
-/// Whether a visit of class 8 of 8 is.
+/// Returns whether a visit from class 8 of 8 is rejected, and is returned.
 fn is_class_refused<R: Abort, T: Turns<Global>>(rt: &R, alloc: Global, turns: &mut T) -> bool
     requires ready { T.is_ready turns.old }
     requires parts { 0 < (T.home turns.old).options.parts }
@@ -251,7 +253,7 @@ fn is_class_refused<R: Abort, T: Turns<Global>>(rt: &R, alloc: Global, turns: &m
     is_refused
 }
 
-/// Whether it is at a session of a table.
+/// Opens a table, and returns whether a visit from class 8 of 8 is rejected by a session of it, and is returned.
 fn is_refused_at<R: Wait + Abort, P: Part<Global> + Drop>(rt: &R, alloc: Global) -> bool {
     let Some((table, mut session, other)) = opened::<Global, P>(alloc, OPTIONS) else {
         rt.panic("no table")

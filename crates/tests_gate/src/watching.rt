@@ -1,4 +1,4 @@
-//! Parts that look for each other: two sessions turn two parts at the same time.
+//! Parts that wait for each other: two sessions make turns at two parts at the same time.
 ghost use Rattle.std.specs.Prelude.{◌≡◌, All, []};
 ghost use Rattle.part_core.specs.Acts.{Entry as PastEntry, IsAsked};
 ghost use Rattle.part_core.specs.Legal.{fix_count, state_after};
@@ -19,13 +19,13 @@ use std::thread::Threads;
 use tables::{Options, Session, Table};
 use term_core::Term;
 
-/// A part which raises a flag at each operation, and looks whether another's is up.
+/// A part that sets a flag at each operation, and checks whether another part's flag is set.
 #[derive(Drop)]
 pub(crate) struct Watching<P> {
     part: P,
     mine: Arc<AtomicBool>,
     others: Arc<AtomicBool>,
-    // Whether it was up at each operation, if there was one.
+    // Whether the flag was set at each operation, if there was one.
     has_met: Option<bool>,
 }
 
@@ -70,12 +70,12 @@ impl<P: Part<Global> + Drop> Part<Global> for Watching<P> {
     }
 }
 
-/// A flag that is not up.
+/// Returns a flag that is not set.
 pub(crate) fn flag<R: Abort>(rt: &R, alloc: Global) -> Arc<AtomicBool> {
     Arc::new(alloc, AtomicBool::new(false)).expect(rt, "a flag")
 }
 
-/// A part that watches another, in its opening state.
+/// Returns a part in its opening state, with its own flag and the one that it checks.
 pub(crate) fn part_that_watches<R: Abort, P: Part<Global> + Drop>(
     rt: &R,
     alloc: Global,
@@ -102,7 +102,7 @@ pub(crate) fn part_that_watches<R: Abort, P: Part<Global> + Drop>(
     }
 }
 
-/// Two parts that watch each other.
+/// Returns two parts that check each other's flag.
 fn watching_parts<R: Abort, P: Part<Global> + Drop>(
     rt: &R,
     alloc: Global,
@@ -122,7 +122,7 @@ fn watching_parts<R: Abort, P: Part<Global> + Drop>(
     parts
 }
 
-/// A table over such parts, and its last two sessions.
+/// Opens a table over such parts, and returns it with its last two sessions.
 pub(crate) fn opened_over<R: Abort, P: Part<Global> + Drop>(
     rt: &R,
     alloc: Global,
@@ -146,7 +146,8 @@ pub(crate) fn opened_over<R: Abort, P: Part<Global> + Drop>(
     (table, first, second)
 }
 
-/// Whether the part that comes out next has met the other, if it was asked.
+/// Takes the next part out of a closed table, and returns whether it saw the other's flag at each operation, if there
+/// was one.
 pub(crate) fn next_met<R: Abort, P: Part<Global> + Drop>(
     rt: &R,
     closed: &mut Closed<Watching<P>>,
@@ -158,7 +159,7 @@ pub(crate) fn next_met<R: Abort, P: Part<Global> + Drop>(
     has_met
 }
 
-/// A session made anew from its fields.
+/// Makes a session again from its fields.
 fn made_anew<P: Part<Global> + Drop>(session: Session<P>) -> Session<P>
     ensures number { result.number ≡ session.number }
     ensures passes { result.passes.items ≡ session.passes.items }
@@ -167,7 +168,7 @@ fn made_anew<P: Part<Global> + Drop>(session: Session<P>) -> Session<P>
     Session { number, passes }
 }
 
-/// Whether each of two parts met the other, where two sessions turned them.
+/// Has two sessions make turns at two parts at the same time. Returns for each part whether it saw the other's flag.
 fn have_met<R: Threads + Wait + Abort + Sync, P: Part<Global> + Drop + Send>(
     rt: &R,
     alloc: Global,

@@ -1,9 +1,9 @@
-//! Calls with each request for memory refused in turn.
+//! Calls with each allocation failing in turn.
 use crate::{functions, text};
 use kit_alloc::{Failing, sweep, sweep_onward};
 use std::alloc::{Allocator, Global};
 
-/// Calls that take memory.
+/// Calls that allocate.
 #[derive(Clone, Copy, Debug)]
 enum Case {
     /// Terms are read.
@@ -18,7 +18,7 @@ enum Case {
 
 const CASES: [Case; 4] = [Case::Read, Case::Write, Case::Operands, Case::Values];
 
-/// Whether what comes of calls is right, none where they want memory and leave all as it was.
+/// Returns whether the results of calls are right, or `None` if they run out of memory and leave all as it was.
 fn is_right<A: Allocator + Copy>(alloc: Global, heap: A, case: Case) -> Option<bool> {
     match case {
         Case::Read => text::is_read(alloc, heap),
@@ -28,7 +28,7 @@ fn is_right<A: Allocator + Copy>(alloc: Global, heap: A, case: Case) -> Option<b
     }
 }
 
-/// Whether it is right or memory was refused, and no block is left then.
+/// Returns whether the results are right or an allocation failed; in each case no block may be left allocated.
 fn is_clean(alloc: Global, heap: &Failing<Global>, case: Case) -> bool {
     let is_right = match is_right(alloc, heap, case) {
         Some(is_right) => is_right,
@@ -37,7 +37,7 @@ fn is_clean(alloc: Global, heap: &Failing<Global>, case: Case) -> bool {
     is_right && heap.blocks() == 0
 }
 
-/// Whether it is so with each request refused in turn, alone and with all behind it.
+/// Returns whether `is_clean` is true with each allocation failing in turn, alone and together with all later ones.
 fn is_swept(alloc: Global, case: Case) -> bool {
     let alone = sweep(alloc, 2_000, |heap| is_clean(alloc, heap, case));
     let onward = sweep_onward(alloc, 2_000, |heap| is_clean(alloc, heap, case));

@@ -1,19 +1,19 @@
-//! The allocator that refuses chosen requests, and sweeps over them.
+//! The allocator that refuses chosen requests, and sweeps over these.
 use kit_alloc::{Failing, Plan, SweepOutcome, sweep, sweep_onward};
 use std::alloc::{AllocError, Allocator, Global};
 use std::thread::{self, Threads};
 
-/// Makes a request, and answers whether it was granted.
+/// Makes a request, and returns whether it was granted.
 fn request<A: Allocator>(heap: A) -> bool {
     Box::new(heap, 1u8).is_ok()
 }
 
-/// Makes four requests, one after another, and answers which were granted.
+/// Makes four requests, one after another, and returns which were granted.
 fn four_requests<A: Allocator + Copy>(heap: A) -> [bool; 4] {
     [request(heap), request(heap), request(heap), request(heap)]
 }
 
-/// Code under test that makes three requests, and answers a number.
+/// Code under test that makes three requests, and returns a number.
 fn sum_of_three<A: Allocator + Copy>(heap: A) -> Result<u64, AllocError> {
     if request(heap) && request(heap) && request(heap) {
         Ok(6)
@@ -22,7 +22,7 @@ fn sum_of_three<A: Allocator + Copy>(heap: A) -> Result<u64, AllocError> {
     }
 }
 
-/// Code under test that hides that it was refused.
+/// Code under test that hides that a request was refused.
 fn sum_or_zero<A: Allocator + Copy>(heap: A) -> u64 {
     match sum_of_three(heap) {
         Ok(sum) => sum,
@@ -38,7 +38,7 @@ fn up_to<A: Allocator>(heap: A, count: u8) -> Result<Vec<u8, A>, AllocError> {
     Ok(numbers)
 }
 
-/// How many numbers there are up to one, and the last of them.
+/// Makes a vec of the numbers up to one. Returns its length and its last number, or `None` if a request is refused.
 fn end_of<A: Allocator>(heap: A, count: u8) -> Option<(usize, u8)> {
     match up_to(heap, count) {
         Ok(numbers) => Some((numbers.len(), *numbers.last()?)),
@@ -46,7 +46,7 @@ fn end_of<A: Allocator>(heap: A, count: u8) -> Option<(usize, u8)> {
     }
 }
 
-/// How many of four requests were granted.
+/// Returns how many of four requests were granted.
 fn granted_of(requests: [bool; 4]) -> usize {
     let mut granted: usize = 0;
     for is_granted in requests {
@@ -57,7 +57,8 @@ fn granted_of(requests: [bool; 4]) -> usize {
     granted
 }
 
-/// Which of four requests are granted under a plan, how many were counted, whether one was refused, and the plan.
+/// Returns which of four requests are granted under a plan, how many were counted, whether one was refused, and the
+/// plan.
 fn granted_under(alloc: Global, plan: Plan) -> ([bool; 4], u64, bool, Plan) {
     let heap = Failing::new(alloc, plan);
     let granted = four_requests(&heap);
@@ -80,7 +81,7 @@ fn refuses_what_its_plan_says(rt: HostRuntime) {
     }
 }
 
-/// How many numbers a vec grows to and the last of them, whether it took several requests, and whether one was refused.
+/// Grows a vec. Returns its length and its last number, whether it made several requests, and whether one was refused.
 fn grown(alloc: Global) -> (Option<(usize, u8)>, bool, bool) {
     let heap = Failing::counting(alloc);
     let end = end_of(&heap, 100);
@@ -92,7 +93,7 @@ fn grows_a_vec_where_memory_is_ample(rt: HostRuntime) {
     assert!(rt; grown(rt.alloc()) == (Some((100, 99)), true, false));
 }
 
-/// The number at which a vec is first refused to grow.
+/// Returns the number at which a vec is first refused to grow, or `None` if that does not happen.
 fn first_refused<A: Allocator>(numbers: &mut Vec<u8, A>) -> Option<usize> {
     for number in 0..100u8 {
         if numbers.push(number).is_err() {
@@ -102,8 +103,8 @@ fn first_refused<A: Allocator>(numbers: &mut Vec<u8, A>) -> Option<usize> {
     None
 }
 
-/// Whether a vec that is refused to grow keeps the numbers before, whether its allocator says that it refused, whether
-/// the growth that is asked again is granted, and how many requests there were.
+/// Grows a vec until a request is refused. Returns whether the vec has the numbers before, whether its allocator
+/// reports a refusal, whether a second attempt to grow is granted, and how many requests there were.
 fn grown_again(heap: &Failing<Global>) -> (bool, bool, bool, u64) {
     let mut numbers = Vec::new(heap);
     let refused = first_refused(&mut numbers);
@@ -118,8 +119,8 @@ fn refuses_the_growth_of_a_vec(rt: HostRuntime) {
     assert!(rt; grown_again(&Failing::refusing_nth(rt.alloc(), 2)) == (true, true, true, 3));
 }
 
-/// Of an allocator over another one: which of four requests it grants, how many it and the other one counted, and
-/// whether it and the other one refused one.
+/// Results for an allocator over another one: which of four requests it grants, how many it and the other one counted,
+/// and whether it and the other one refused one.
 type Nested = ([bool; 4], (u64, u64), (bool, bool));
 
 fn nested(inner: &Failing<Global>, outer: Plan) -> Nested {
@@ -145,7 +146,7 @@ fn tells_its_refusals_from_those_of_the_inner_allocator(rt: HostRuntime) {
     assert!(rt; came == ([true, false, false, false], (4, 4), (false, true)));
 }
 
-/// How a sweep over three requests ends, and the plan of its last run.
+/// Returns how a sweep over three requests ends, and the plan of its last run.
 fn swept(alloc: Global) -> (SweepOutcome, Plan) {
     let mut last = Plan::Never;
     let outcome = sweep(alloc, 100, |heap| {
@@ -158,7 +159,7 @@ fn swept(alloc: Global) -> (SweepOutcome, Plan) {
     (outcome, last)
 }
 
-/// The same where all requests behind one are refused, too.
+/// Returns how a sweep over three requests ends that also refuses all later ones, and the plan of its last run.
 fn swept_onward(alloc: Global) -> (SweepOutcome, Plan) {
     let mut last = Plan::Never;
     let outcome = sweep_onward(alloc, 100, |heap| {
@@ -180,7 +181,7 @@ fn sweeps_until_no_request_is_refused(rt: HostRuntime) {
     assert!(rt; outcome == SweepOutcome::Complete { runs: 4 } && last == Plan::From(4));
 }
 
-/// How a sweep over three requests ends that has at most so many runs.
+/// Returns how a sweep over three requests ends that has at most `runs` runs.
 fn swept_within(alloc: Global, runs: u64) -> SweepOutcome {
     sweep(alloc, runs, |heap: &Failing<Global>| {
         sum_of_three(heap).is_ok() || heap.was_refused()
@@ -198,8 +199,8 @@ fn sweeps_no_further_than_told(rt: HostRuntime) {
     }
 }
 
-/// How sweeps end over code that hides each refusal, over code that misses the third request, and over code that misses
-/// the second where all behind it are refused, too.
+/// Returns how sweeps end over three pieces of code: one hides each refusal, one fails without the third request, and
+/// one fails when the second and all later ones are refused.
 fn misbehaved(alloc: Global) -> [SweepOutcome; 3] {
     let hidden = sweep(alloc, 100, |heap| sum_or_zero(heap) == 6);
     let third = sweep(alloc, 100, |heap| four_requests(heap)[2]);
@@ -218,8 +219,8 @@ fn stops_at_the_first_run_that_does_not_behave_well(rt: HostRuntime) {
     assert!(rt; !third.is_complete() && !SweepOutcome::OutOfRuns.is_complete());
 }
 
-/// How many requests of two threads are granted by an allocator that refuses from the sixth on, how many there were,
-/// and whether one was refused.
+/// Has two threads make four requests each of an allocator that refuses from the sixth on. Returns how many are
+/// granted, how many there were, and whether one was refused.
 fn granted_to_two<R: Threads>(rt: &R, alloc: Global) -> (usize, u64, bool) {
     let heap = Failing::refusing_from(alloc, 6);
     let (here, there) = thread::join(rt, || four_requests(&heap), || four_requests(&heap));
@@ -232,7 +233,7 @@ fn counts_the_requests_of_two_threads(rt: HostRuntime) {
     assert!(rt; granted_to_two(&rt, rt.alloc()) == (5, 8, true));
 }
 
-/// How many numbers a vec has that is let go in another thread; none for want of memory.
+/// Makes a vec that is dropped in another thread. Returns its length, or `None` if a request is refused.
 fn length_elsewhere<R: Threads>(rt: &R, heap: &Failing<Global>) -> Option<usize> {
     let Ok(numbers) = up_to(heap, 9) else {
         return None;
@@ -246,8 +247,8 @@ fn frees_a_block_in_another_thread(rt: HostRuntime) {
     assert!(rt; length_elsewhere(&rt, &Failing::counting(rt.alloc())) == Some(9));
 }
 
-/// How many blocks two vecs have that grew, how many when one is gone, and how many when both are; none for want of
-/// memory.
+/// Returns how many blocks are allocated for two vecs that grew, how many after one is dropped, and how many after both
+/// are. Returns `None` if a request is refused.
 fn blocks_of_two(heap: &Failing<Global>) -> Option<[u64; 3]> {
     let (Ok(first), Ok(second)) = (up_to(heap, 9), up_to(heap, 9)) else {
         return None;

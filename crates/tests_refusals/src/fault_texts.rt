@@ -1,7 +1,7 @@
-//! The texts of refusals, which say in words what their numbers and arguments say: of each enum of refusals each
+//! The texts of faults, which say in words what their error codes and arguments say: of each enum of faults each
 //! variant, in the order of `TermFault`, `TextFault`, `SpecFault`, `BuildFault`, `FileFault`, `CodeFault`, `PartFault`,
-//! `OpenFault`, `WalkFault`, `SelectFault`, `Lost` and `ToolFault`. A text stands behind its number, where there is
-//! one, and one of code that is not verified also behind that of the instruction.
+//! `OpenFault`, `WalkFault`, `SelectFault`, `Lost` and `ToolFault`. A text follows its error code, if there is one. The
+//! text for code that is not verified also follows the number of the instruction.
 use code_file::FileFault;
 use gate::Lost;
 use mcode::Fault as BuildFault;
@@ -17,7 +17,7 @@ use tool_io::ToolFault;
 use verifier::Fault as CodeFault;
 use walks::WalkFault;
 
-/// A refusal that has a number.
+/// A fault that has an error code.
 trait Numbered: Copy + Display {
     fn number_of(self) -> u8;
 }
@@ -82,13 +82,13 @@ impl Numbered for SelectFault {
     }
 }
 
-/// Puts a line with the number and the text of a refusal at the end; false for want of memory.
+/// Appends a line with the error code and the text of a fault; returns `false` if memory runs out.
 fn put<F: Numbered>(lines: &mut Vec<u8>, fault: F) -> bool {
     let number = fault.number_of();
     write!(lines, "{number} {fault}\n").is_ok()
 }
 
-/// Puts the line of each of these at the end; false for want of memory.
+/// Appends the line of each of these faults; returns `false` if memory runs out.
 fn put_all<F: Numbered>(lines: &mut Vec<u8>, faults: &[F]) -> bool {
     let mut is_whole = true;
     for fault in faults {
@@ -97,13 +97,13 @@ fn put_all<F: Numbered>(lines: &mut Vec<u8>, faults: &[F]) -> bool {
     is_whole
 }
 
-/// Whether each of these is told by its line.
+/// Returns whether the lines of these faults are the wanted ones.
 fn are_told<F: Numbered>(alloc: Global, faults: &[F], wanted: &str) -> bool {
     let mut lines = Vec::new(alloc);
     put_all(&mut lines, faults) && lines.as_slice() == wanted.as_bytes()
 }
 
-/// Puts a line with the text alone of a refusal at the end; false for want of memory.
+/// Appends a line with the text of a fault alone; returns `false` if memory runs out.
 fn put_text<F: Display + Copy>(lines: &mut Vec<u8>, fault: F) -> bool {
     write!(lines, "{fault}\n").is_ok()
 }
@@ -295,7 +295,7 @@ const COMMANDS: [ToolFault; 10] = [
     ToolFault::WriteFailed,
 ];
 
-/// Without their numbers, which stand in the line of each.
+/// The texts without the error codes, which are in the error line of each.
 const OF_COMMANDS: &str = "\
 out of memory
 at byte 3: syntax error
@@ -309,7 +309,7 @@ the input can't be read
 the output can't be written
 ";
 
-/// Puts the number of the instruction at the end, where there is one; false for want of memory.
+/// Appends the number of the instruction, if there is one; returns `false` if memory runs out.
 fn put_place(lines: &mut Vec<u8>, pc: Option<u16>) -> bool {
     match pc {
         Some(pc) => write!(lines, "{pc} ").is_ok(),
@@ -317,7 +317,7 @@ fn put_place(lines: &mut Vec<u8>, pc: Option<u16>) -> bool {
     }
 }
 
-/// Puts the line of each refusal of code at the end, behind the instruction that it names; false for want of memory.
+/// Appends the line of each fault of code, after the instruction that it names; returns `false` if memory runs out.
 fn put_places(lines: &mut Vec<u8>, faults: &[CodeFault]) -> bool {
     let mut is_whole = true;
     for fault in faults {
@@ -326,19 +326,19 @@ fn put_places(lines: &mut Vec<u8>, faults: &[CodeFault]) -> bool {
     is_whole
 }
 
-/// Whether each refusal of code is told by its line.
+/// Returns whether the lines of the faults of code are right.
 fn are_told_of_code(alloc: Global) -> bool {
     let mut lines = Vec::new(alloc);
     put_places(&mut lines, &CODE) && lines.as_slice() == OF_CODE.as_bytes()
 }
 
-/// Whether a part that can't be had back, which has no number, is told so.
+/// Returns whether the text for a part that can't be returned, which has no error code, is right.
 fn is_told_of_a_lost_part(alloc: Global) -> bool {
     let mut lines = Vec::new(alloc);
     put_text(&mut lines, Lost) && lines.as_slice() == b"the part is lost\n".as_slice()
 }
 
-/// Puts the text of each refusal of a command at the end; false for want of memory.
+/// Appends the text of each fault of a command; returns `false` if memory runs out.
 fn put_texts(lines: &mut Vec<u8>, faults: &[ToolFault]) -> bool {
     let mut is_whole = true;
     for fault in faults {
@@ -347,53 +347,53 @@ fn put_texts(lines: &mut Vec<u8>, faults: &[ToolFault]) -> bool {
     is_whole
 }
 
-/// Whether each refusal of a command is told so.
+/// Returns whether the texts of the faults of commands are right.
 fn are_told_of_commands(alloc: Global) -> bool {
     let mut lines = Vec::new(alloc);
     put_texts(&mut lines, &COMMANDS) && lines.as_slice() == OF_COMMANDS.as_bytes()
 }
 
-/// Whether each refusal of terms is told so.
+/// Returns whether the lines of the faults of terms are right.
 fn are_told_of_terms(alloc: Global) -> bool {
     are_told(alloc, &TERMS, OF_TERMS)
 }
 
-/// Whether each refusal of texts is told so.
+/// Returns whether the lines of the faults of texts are right.
 fn are_told_of_texts(alloc: Global) -> bool {
     are_told(alloc, &TEXTS, OF_TEXTS)
 }
 
-/// Whether each refusal of specifications is told so.
+/// Returns whether the lines of the faults of specifications are right.
 fn are_told_of_specifications(alloc: Global) -> bool {
     are_told(alloc, &SPECIFICATIONS, OF_SPECIFICATIONS)
 }
 
-/// Whether each refusal of building is told so.
+/// Returns whether the lines of the faults of building code are right.
 fn are_told_of_building(alloc: Global) -> bool {
     are_told(alloc, &BUILDING, OF_BUILDING)
 }
 
-/// Whether each refusal of files is told so.
+/// Returns whether the lines of the faults of files are right.
 fn are_told_of_files(alloc: Global) -> bool {
     are_told(alloc, &FILES, OF_FILES)
 }
 
-/// Whether each refusal of parts is told so.
+/// Returns whether the lines of the faults of parts are right.
 fn are_told_of_parts(alloc: Global) -> bool {
     are_told(alloc, &PARTS, OF_PARTS)
 }
 
-/// Whether each refusal of opening is told so.
+/// Returns whether the lines of the faults of opening tables are right.
 fn are_told_of_opening(alloc: Global) -> bool {
     are_told(alloc, &OPENING, OF_OPENING)
 }
 
-/// Whether each refusal of walks is told so.
+/// Returns whether the lines of the faults of walks are right.
 fn are_told_of_walks(alloc: Global) -> bool {
     are_told(alloc, &WALKS, OF_WALKS)
 }
 
-/// Whether each refusal of selections is told so.
+/// Returns whether the lines of the faults of selections are right.
 fn are_told_of_selections(alloc: Global) -> bool {
     are_told(alloc, &SELECTIONS, OF_SELECTIONS)
 }

@@ -1,4 +1,4 @@
-//! Functions: operands and values that are copied, and what takes no memory.
+//! Functions: operands and values that are copied, and calls that do not allocate.
 use kit_alloc::Failing;
 use kit_rows::{is_atom, term_of, was_ok, was_some};
 use prims::{call, call_values};
@@ -7,7 +7,7 @@ use std::alloc::{Allocator, Global};
 use term_core::Term;
 use term_operand::{Operand, Value};
 
-/// Whether `max` of a term and of the number one as a plain operand gives the first.
+/// Returns whether the maximum of a term and the integer operand 1 is the term itself.
 fn is_first_given(number: Term) -> bool {
     let max = Primitive::Function(Function::Extreme(Extreme::Max));
     let is_first = match call(max, &[Operand::Term(&number), Operand::Int(1)]) {
@@ -23,7 +23,7 @@ fn of_equal_operands_the_first_is_given(rt: HostRuntime) {
     assert!(rt; is_first_given(Term::int(1)));
 }
 
-/// Whether an operand is exactly equal to a term.
+/// Returns whether an operand is exactly equal to a term.
 fn is_equal<A: Allocator>(term: &Term<A>, operand: Operand<'_, A>) -> bool {
     let same = Primitive::Function(Function::Comparison(Comparison::ExactlyEqual));
     match call(same, &[Operand::Term(term), operand]) {
@@ -32,10 +32,10 @@ fn is_equal<A: Allocator>(term: &Term<A>, operand: Operand<'_, A>) -> bool {
     }
 }
 
-/// What an operand is of a list.
+/// The forms of an operand made from a list.
 #[derive(Clone, Copy)]
 enum Form {
-    /// What is left behind its first element.
+    /// What follows its first element.
     Rest,
     /// The list.
     Term,
@@ -45,7 +45,7 @@ enum Form {
     Number,
 }
 
-/// An operand of that form, of this list.
+/// Returns an operand of this form, made from this list.
 fn formed<A: Allocator>(list: &Term<A>, form: Form) -> Operand<'_, A> {
     match form {
         Form::Rest => Operand::Rest(list, 1),
@@ -55,7 +55,7 @@ fn formed<A: Allocator>(list: &Term<A>, form: Form) -> Operand<'_, A> {
     }
 }
 
-/// Whether the copy of an operand of that form is right, none where memory is refused.
+/// Returns whether the copy of an operand of this form is right, or `None` if memory runs out.
 fn is_copied<A: Allocator + Copy>(heap: A, list: &Term<A>, form: Form) -> Option<bool> {
     let operand = formed(list, form);
     let Ok(copy) = operand.to_term(heap) else {
@@ -66,7 +66,7 @@ fn is_copied<A: Allocator + Copy>(heap: A, list: &Term<A>, form: Form) -> Option
     Some(is_right)
 }
 
-/// Whether copies made of a list are right, none where memory is refused.
+/// Returns whether the copies of operands made from a list are right, or `None` if memory runs out.
 fn are_copied_of<A: Allocator + Copy>(heap: A, list: &Term<A>) -> Option<bool> {
     for form in [Form::Rest, Form::Term, Form::Truth, Form::Number] {
         if !is_copied(heap, list, form)? {
@@ -76,7 +76,7 @@ fn are_copied_of<A: Allocator + Copy>(heap: A, list: &Term<A>) -> Option<bool> {
     Some(true)
 }
 
-/// Whether copies made of `[a,true,1|b]` are right, none where memory is refused.
+/// Returns whether the copies of operands made from `[a,true,1|b]` are right, or `None` if memory runs out.
 pub(super) fn are_copied<A: Allocator + Copy>(heap: A) -> Option<bool> {
     let list = term_of(heap, b"[a,true,1|b].")?;
     let are_copied = are_copied_of(heap, &list);
@@ -84,12 +84,12 @@ pub(super) fn are_copied<A: Allocator + Copy>(heap: A) -> Option<bool> {
     are_copied
 }
 
-/// Puts a value behind others; false for want of memory.
+/// Appends a value; returns `false` if memory runs out.
 fn put<'a, A: Allocator>(values: &mut Vec<Value<'a, A>, A>, value: Value<'a, A>) -> bool {
     was_ok(values.push(value))
 }
 
-/// The number one, and the only term of a text as a value that was made.
+/// Returns the number 1 and, as a value that was made, the term of a text, or `None` if memory runs out.
 fn one_and_made<'a, A: Allocator + Copy>(alloc: A, text: &[u8]) -> Option<Vec<Value<'a, A>, A>> {
     let made = term_of(alloc, text)?;
     let mut values = Vec::new(alloc);
@@ -102,7 +102,7 @@ fn one_and_made<'a, A: Allocator + Copy>(alloc: A, text: &[u8]) -> Option<Vec<Va
     }
 }
 
-/// The term that a copy of a value becomes, none where memory is refused.
+/// Returns the term that a copy of a value becomes, or `None` if memory runs out.
 fn copied_term<A: Allocator + Copy>(alloc: A, value: &Value<'_, A>) -> Option<Term<A>> {
     let Ok(copy) = value.copy() else {
         return None;
@@ -110,7 +110,7 @@ fn copied_term<A: Allocator + Copy>(alloc: A, value: &Value<'_, A>) -> Option<Te
     copy.into_term(alloc).ok()
 }
 
-/// Whether a copy of a value is the atom `a`, none where memory is refused.
+/// Returns whether a copy of a value is the atom `a`, or `None` if memory runs out.
 fn is_copied_a<A: Allocator + Copy>(alloc: A, value: &Value<'_, A>) -> Option<bool> {
     let term = copied_term(alloc, value)?;
     let is_right = is_atom(&term, "a");
@@ -118,7 +118,7 @@ fn is_copied_a<A: Allocator + Copy>(alloc: A, value: &Value<'_, A>) -> Option<bo
     Some(is_right)
 }
 
-/// Whether a copy of the first element of a tuple that was made is right, none where memory is refused.
+/// Returns whether a copy of the first element of a tuple that was made is right, or `None` if memory runs out.
 pub(super) fn is_element_copied<A: Allocator + Copy>(heap: A) -> Option<bool> {
     let values = one_and_made(heap, b"{a}.")?;
     let element = Primitive::Function(Function::Tuple(TupleFunction::Element));
@@ -133,7 +133,7 @@ pub(super) fn is_element_copied<A: Allocator + Copy>(heap: A) -> Option<bool> {
     is_copied
 }
 
-/// So many times the borrowed value `true`.
+/// Returns the borrowed value `true`, `count` times, or `None` if memory runs out.
 fn trues<'a, A: Allocator + Copy>(alloc: A, count: usize) -> Option<Vec<Value<'a, A>, A>> {
     let mut values = Vec::new(alloc);
     let mut is_whole = true;
@@ -143,7 +143,7 @@ fn trues<'a, A: Allocator + Copy>(alloc: A, count: usize) -> Option<Vec<Value<'a
     if is_whole { Some(values) } else { None }
 }
 
-/// How many requests of memory it takes to make so many.
+/// Returns the number of allocations that making `count` such values takes.
 fn requests(heap: Global, count: usize) -> Option<u64> {
     let counting = Failing::counting(heap);
     if was_some(trues(&counting, count)) {
@@ -153,7 +153,8 @@ fn requests(heap: Global, count: usize) -> Option<u64> {
     }
 }
 
-/// What `and` gives of so many times `true`, none where it is refused memory.
+/// Returns the result of `and` of `count` times `true`: the truth value, `Some(None)` if the call runs out of memory,
+/// or `None` if it gives no value or the values could not be made.
 fn and_of<A: Allocator + Copy>(heap: A, count: usize) -> Option<Option<bool>> {
     let values = trues(heap, count)?;
     let and = Primitive::Function(Function::Boolean(BooleanFunction::And));
@@ -168,7 +169,8 @@ fn and_of<A: Allocator + Copy>(heap: A, count: usize) -> Option<Option<bool>> {
     given
 }
 
-/// The same, where each request of the call is refused.
+/// Returns the result of `and` of `count` times `true` with each allocation of the call failing; `Some(None)` if the
+/// call runs out of memory.
 fn and_without_memory(heap: Global, count: usize) -> Option<Option<bool>> {
     let requests = requests(heap, count)?.saturating_add(1);
     and_of(&Failing::refusing_from(heap, requests), count)

@@ -1,4 +1,4 @@
-//! Tables that are opened: options that can't be are refused as such, also where there is no memory, and none else are.
+//! Opening of tables: options that can't be opened are rejected as such, also if memory runs out, and no others are.
 use kit_alloc::Failing;
 use part_core::{OpenFault, Part, TableKind};
 use part_hash::HashPart;
@@ -7,10 +7,10 @@ use part_plain::PlainPart;
 use std::alloc::Global;
 use tables::{LocalTable, Options};
 
-/// A kind of table, a place of the key, parts and sessions.
+/// A kind of table, a key position, a number of parts and a number of sessions.
 type Numbers = (TableKind, u16, u8, u8);
 
-/// Why a table can't be opened so, if it can't.
+/// Returns why a table can't be opened with these options, or `None` if it can.
 fn refusal<'a, P: Part<&'a Failing<Global>> + Drop>(
     heap: &'a Failing<Global>,
     numbers: Numbers,
@@ -26,7 +26,7 @@ fn refusal<'a, P: Part<&'a Failing<Global>> + Drop>(
     LocalTable::<P, &'a Failing<Global>>::open(heap, options).err()
 }
 
-/// Which parts a table has.
+/// The sort of a table's parts.
 #[derive(Clone, Copy)]
 enum Sort {
     Plain,
@@ -34,7 +34,7 @@ enum Sort {
     Ordered,
 }
 
-/// The same of a table of parts of a sort.
+/// Returns why a table of this sort of parts can't be opened with these options, or `None` if it can.
 fn refusal_of(heap: &Failing<Global>, sort: Sort, numbers: Numbers) -> Option<OpenFault> {
     match sort {
         Sort::Plain => refusal::<PlainPart<_>>(heap, numbers),
@@ -43,7 +43,7 @@ fn refusal_of(heap: &Failing<Global>, sort: Sort, numbers: Numbers) -> Option<Op
     }
 }
 
-/// The same with memory, and without.
+/// Returns why a table can't be opened with these options, with memory and without.
 fn refusals(alloc: Global, sort: Sort, numbers: Numbers) -> (Option<OpenFault>, Option<OpenFault>) {
     let ample = Failing::counting(alloc);
     let scarce = Failing::refusing_from(alloc, 1);

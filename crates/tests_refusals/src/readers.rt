@@ -5,7 +5,7 @@ use term_text::Form;
 use tool_io::{ToolFault, read_within};
 use tool_query::tool_run;
 
-/// What a reader of one byte a read gives within so many reads.
+/// Returns what a reader of one byte a read gives within `limit` reads.
 fn read_slowly(
     alloc: Global,
     bytes: &[u8],
@@ -21,7 +21,7 @@ fn read_slowly(
     read_within(alloc, limit, &mut reader)
 }
 
-/// Whether these bytes are read within so many reads, and not within one less.
+/// Returns whether these bytes are read within `reads` reads, and not within one read less.
 fn takes_reads(alloc: Global, bytes: &[u8], is_interrupted: bool, reads: u32) -> bool {
     let is_whole = match read_slowly(alloc, bytes, is_interrupted, reads) {
         Ok(read) => read.as_slice() == bytes,
@@ -40,7 +40,7 @@ fn reads_are_counted(rt: HostRuntime) {
     assert!(rt; takes_reads(alloc, b"abc", true, 8));
 }
 
-/// Whether `run` writes these lines for 100,000 blanks and this input, read byte by byte.
+/// Returns whether `run` writes these lines for 100,000 blanks followed by this input, read byte by byte.
 fn writes_slowly(alloc: Global, input: &str, is_interrupted: bool, lines: &str) -> bool {
     let mut reader = SlowReader {
         blanks: 100_000,

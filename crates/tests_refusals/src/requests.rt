@@ -1,4 +1,4 @@
-//! Commands of the program with each request for memory refused in turn.
+//! Commands of the program with each allocation failing in turn.
 use crate::sweeps::{Written, lines_in};
 use kit_alloc::{Failing, sweep, sweep_onward};
 use kit_streams::FILE;
@@ -9,12 +9,12 @@ use std::thread::Threads;
 use term_text::Form;
 use tool_cli::{Request, Told, run_request};
 
-/// Whether what was told is the line of want of memory, or nothing.
+/// Returns whether the output on standard error is the error line for out of memory, or nothing.
 fn tells_no_memory(err: &[u8]) -> bool {
     err.is_empty() || err == b"error E1\n".as_slice()
 }
 
-/// Whether what was written ends with a line.
+/// Returns whether the output is empty or ends with a line feed.
 fn ends_a_line(written: &[u8]) -> bool {
     match written.last() {
         Some(byte) => *byte == b'\n',
@@ -22,21 +22,22 @@ fn ends_a_line(written: &[u8]) -> bool {
     }
 }
 
-/// A command over an input, and what comes of it with ample memory.
+/// A command over an input, and its result when memory is available.
 #[derive(Clone, Copy)]
 struct Case {
     request: Request,
     input: &'static str,
     lines: &'static str,
-    /// No line is written before the last has been put together; else the last request is one for the last line.
+    /// No line is written before the last has been put together; otherwise the last allocation is one for the last
+    /// line.
     at_once: bool,
     line: &'static str,
     status: u8,
 }
 
 impl Case {
-    /// Whether it writes and ends so where a request for memory may be refused, or ends for want of it behind no fewer
-    /// lines than before.
+    /// Returns whether the command has its result with memory that may run out, or ends with out of memory after no
+    /// fewer lines than in the run before.
     fn is_right<H: Threads + Wait + Sync>(
         self,
         rt: &H,
@@ -68,7 +69,7 @@ impl Case {
             && tells_no_memory(told.as_slice())
     }
 
-    /// How many lines it writes where the last request is refused.
+    /// Returns how many lines the command writes if its last allocation fails.
     fn most(self) -> usize {
         if self.at_once {
             return 0;
@@ -76,8 +77,8 @@ impl Case {
         lines_in(self.lines.as_bytes()).saturating_sub(1)
     }
 
-    /// Whether it does with each request refused in turn, alone and with all behind it, and with the last refused writes
-    /// so many lines.
+    /// Returns whether `is_right` is true with each allocation failing in turn, alone and together with all later ones,
+    /// and the command writes `most` lines if the last one fails.
     fn holds<H: Threads + Wait + Sync>(self, rt: &H, alloc: Global) -> bool {
         let mut so_far = Written { lines: 0 };
         let alone = sweep(alloc, 4_000, |heap| {
@@ -94,7 +95,7 @@ impl Case {
     }
 }
 
-/// The first of these cases that doesn't hold.
+/// Returns the index of the first of these cases that is not right.
 fn first_wrong<H: Threads + Wait + Sync>(rt: &H, alloc: Global, cases: &[Case]) -> Option<usize> {
     for (place, case) in cases.iter().enumerate() {
         if !case.holds(rt, alloc) {
@@ -104,25 +105,25 @@ fn first_wrong<H: Threads + Wait + Sync>(rt: &H, alloc: Global, cases: &[Case]) 
     None
 }
 
-/// A specification and three objects, of each of which the answer is made.
+/// A specification and three objects; each answer is a term that has to be made.
 const MADE: &str = "[{{'$1'},[],[{{'$1',[]}}]}]. {1}. {[2]}. {\"3\"}.";
 
-/// Its answers.
+/// The lines of its answers.
 const MADE_LINES: &str = "{1,[]}.\n{[2],[]}.\n{[51],[]}.\n";
 
-/// The same for `test`, of whose answers each takes memory.
+/// A specification and three objects for `test`, of which each answer needs memory.
 const TESTED: &str =
     "[{{'$1'},[{is_list,'$1'}],[{{{hd,'$1'},['$$'|'$_'],#{k=>'$1'}}}]}]. {1}. {[2]}. {[3]}.";
 
-/// What it says of them.
+/// The lines of its outcomes.
 const TESTED_LINES: &str =
     "false.\n{ok,{2,[[[2]]|{[2]}],#{k=>[2]}}}.\n{ok,{3,[[[3]]|{[3]}],#{k=>[3]}}}.\n";
 
 /// A condition and a variable, which make no term, and two objects.
 const PAIRS: &str = "[{{'$1','$2'},[{'>','$1',1}],['$2']}]. {1,a}. {2,b}.";
 
-/// Queries: four that are answered, one whose specification is refused, and two whose text has no end, behind objects that
-/// are answered and behind a first term that asks nothing.
+/// Queries: four that succeed, one whose specification is rejected, and two whose text does not end: after objects that
+/// are answered, and after a first term that is no query.
 const QUERIES: [Case; 7] = [
     Case {
         request: Request::Run(Form::Canonical),
@@ -182,7 +183,7 @@ const QUERIES: [Case; 7] = [
     },
 ];
 
-/// The first of these queries that doesn't hold.
+/// Returns the index of the first of these queries that is not right.
 fn wrong_query<H: Threads + Wait + Sync>(rt: &H, alloc: Global) -> Option<usize> {
     first_wrong(rt, alloc, &QUERIES)
 }
@@ -221,7 +222,7 @@ const FILES: [Case; 3] = [
     },
 ];
 
-/// The first of these commands over code files that doesn't hold.
+/// Returns the index of the first of these commands over code files that is not right.
 fn wrong_file<H: Threads + Wait + Sync>(rt: &H, alloc: Global) -> Option<usize> {
     first_wrong(rt, alloc, &FILES)
 }
@@ -235,7 +236,7 @@ fn each_request_over_code_files_refused_in_turn(rt: HostRuntime) {
 /// A specification that names a key, with a constant and a call.
 const EXPLAINED: &str = "[{{k,'$7'},[{'<','$7',{const,[a]}}],[{{'$7'}}]}].";
 
-/// What is said of it.
+/// The lines of its explanation.
 const EXPLAINED_LINES: &str = "\
 walk at keypos 1: 1 looked up: k
 instructions of a run at most 19, stack at most 3
@@ -262,7 +263,7 @@ instructions of a run at most 19, stack at most 3
    20  no_answer
 ";
 
-/// What is said of a file.
+/// The explanation of a file.
 const FILE_LINES: &str = "\
 walk at keypos 3: all objects
 instructions of a run at most 2, stack at most 1
@@ -271,7 +272,7 @@ instructions of a run at most 2, stack at most 1
     2  no_answer
 ";
 
-/// Explanations of both.
+/// Explanations of the specification and of the file.
 const EXPLANATIONS: [Case; 2] = [
     Case {
         request: Request::Explain(1),
@@ -291,7 +292,7 @@ const EXPLANATIONS: [Case; 2] = [
     },
 ];
 
-/// The first of these explanations that doesn't hold.
+/// Returns the index of the first of these explanations that is not right.
 fn wrong_explanation<H: Threads + Wait + Sync>(rt: &H, alloc: Global) -> Option<usize> {
     first_wrong(rt, alloc, &EXPLANATIONS)
 }
@@ -309,14 +310,14 @@ const SET_SCRIPT: &str =
 {delete_object,0,{1,z}}. {insert,0,{[k|v],#{a=>{}}}}. {next,0,[k|v]}. {lookup,1,1}. nothing. {unfix,0}. {insert,0,{<<1>>,9}}. {close}.
 {open,bag,0,1,1}. {open,ordered_set,1,1,1}. {insert,0,{1,a}}. {close}.";
 
-/// The same on an ordered set.
+/// Commands of every kind on an ordered set.
 const ORDERED_SET_SCRIPT: &str =
     "{open,ordered_set,1,1,2}. {insert,0,{1,[a]}}. {insert_new,1,{2,\"b\"}}. {insert_new,0,{2,c}}. {insert,0,a}. {lookup,0,1}. {member,1,2}.
 {fix,0}. {fix,1}. {delete,0,1}. {first,0}. {next,1,1}. {insert,1,{1,z}}. {unfix,0}. {leave,1}. {take,0,[3]}. {take,0,2}.
 {delete_object,0,{1,z}}. {insert,0,{[k|v],#{a=>{}}}}. {next,0,[k|v]}. {lookup,1,1}. nothing. {unfix,0}. {insert,0,{<<1>>,9}}. {close}.
 {open,bag,0,1,1}. {open,ordered_set,1,1,1}. {insert,0,{1,a}}. {close}.";
 
-/// What both are replied.
+/// The replies to both scripts.
 const SCRIPT_LINES: &str = "\
 true.
 true.
@@ -349,15 +350,15 @@ true.
 [{1,a}].
 ";
 
-/// Commands on a bag: a second and a fifth object of a key, slots that double, a key of which some objects go, one that
-/// is named, pieces that end between two objects of a key.
+/// Commands on a bag. There are a second and a fifth object of a key, slots that double, a key of which some objects
+/// are deleted, a key that is named, and pieces that end between two objects of a key.
 const BAG_SCRIPT: &str =
     "{open,bag,1,1,2}. {insert,0,{1,a}}. {insert,0,{1,b}}. {insert,1,{1,a}}. {insert,0,{1,[c]}}. {insert,0,{1,d}}. {insert,0,{1,e}}.
 {insert,0,{9,a}}. {insert_new,0,{9,b}}. {lookup,1,1}. {delete_object,0,{1,b}}. {fix,1}. {select,1,[{{1,'$1'},[],['$1']}],3}. {delete,0,1}.
 {more,1,0}. {more,1,1}. {insert,0,{1,[f]}}. {insert,0,{1,g}}. {unfix,1}. {select_count,0,[{{'_',a},[],[true]}]}.
 {select,0,[{'_',[],[['$_']]}],2}. {more,0,2}. {select,0,[{'_',[],[['$_']]}]}. {select_delete,0,[{{1,g},[],[true]},{{9,'_'},[],[false]}]}. {take,0,1}. {close}.";
 
-/// What it is replied.
+/// The replies to the commands on a bag.
 const BAG_LINES: &str = "\
 true.
 true.
@@ -387,12 +388,12 @@ true.
 [{9,a}].
 ";
 
-/// Lines of a shell: commands, two of which share a line, one goes on in the next line, one is refused with what stands
-/// behind it in its line, one is given up, and one stands behind a comment.
+/// Lines of a shell. Of its commands two share a line, one goes on in the next line, one is rejected with what follows
+/// it in its line, one is given up, and one follows a comment.
 const SHELL: &str =
     "{open,set,1,1,1}.\n{insert,0,{1,[a]}}. {insert,0,\n{1,[b]}}.\n{lookup 0,1}. {close}.\n{lookup,0,\n\n% all.\n{close}.";
 
-/// What they are replied.
+/// The replies to these lines.
 const SHELL_LINES: &str = "\
 true.
 true.
@@ -422,7 +423,7 @@ const SHELLS: [Case; 2] = [
     },
 ];
 
-/// The first of these shells that doesn't hold.
+/// Returns the index of the first of these shells that is not right.
 fn wrong_shell<H: Threads + Wait + Sync>(rt: &H, alloc: Global) -> Option<usize> {
     first_wrong(rt, alloc, &SHELLS)
 }
@@ -461,7 +462,7 @@ const SCRIPTS: [Case; 3] = [
     },
 ];
 
-/// The first of these scripts that doesn't hold.
+/// Returns the index of the first of these scripts that is not right.
 fn wrong_script<H: Threads + Wait + Sync>(rt: &H, alloc: Global) -> Option<usize> {
     first_wrong(rt, alloc, &SCRIPTS)
 }

@@ -1,4 +1,4 @@
-//! Scans with each request for memory refused in turn, by one session and by several.
+//! Scans with each allocation failing in turn, by one session and by several.
 use crate::sweeps::Written;
 use kit_alloc::{Failing, sweep, sweep_onward};
 use part_plain::PlainPart;
@@ -8,24 +8,24 @@ use std::thread::Threads;
 use tool_io::ToolFault;
 use tool_scan::{ScanKind, ScanOptions, tool_scan};
 
-/// A specification and objects, of each of which the answer is made. The first three of the six have one key, and two
-/// of these are equal.
+/// A specification and objects; each answer is a term that has to be made. The first three of the six objects have one
+/// key, and two of these are equal.
 const INPUT: &str = "[{{'$1','_'},[],[{{'$1',[]}}]}]. {1,a}. {1,b}. {1,a}. {2,b}. {3,c}. {4,d}.";
 
-/// Its answers of a set, a bag and a `duplicate_bag` of two parts.
+/// The answers from a set of two parts; those from a bag and a `duplicate_bag` of two parts are below.
 const OF_SET: &str = "{2,[]}.\n{4,[]}.\n{1,[]}.\n{3,[]}.\n";
 
 const OF_BAG: &str = "{2,[]}.\n{4,[]}.\n{1,[]}.\n{1,[]}.\n{3,[]}.\n";
 
 const OF_DUPLICATE_BAG: &str = "{2,[]}.\n{4,[]}.\n{1,[]}.\n{1,[]}.\n{1,[]}.\n{3,[]}.\n";
 
-/// A specification of which no answer takes memory, and objects; its answers of a set of two parts.
+/// A specification of which no answer needs memory, and objects. Its answers from a set of two parts are below.
 const KEYS: &str = "[{{'$1'},[],['$1']}]. {1}. {2}. {3}. {4}.";
 
 const OF_KEYS: &str = "2.\n4.\n1.\n3.\n";
 
-/// Whether a scan ends with all lines, or for want of memory with a beginning of them: one by one session with no fewer
-/// than before. What several sessions ask for comes in an order of its own each time.
+/// Returns whether a scan ends with all lines, or out of memory with the first of them. With one session there are no
+/// fewer lines than in the run before; the order of allocations of several sessions is different each time.
 fn is_right<H: Threads + Wait + Sync>(
     rt: &H,
     alloc: Global,
@@ -55,7 +55,7 @@ fn is_right<H: Threads + Wait + Sync>(
     }
 }
 
-/// What a table of such a kind is scanned with by so many workers.
+/// Returns the options of a scan into a table of this kind by this number of workers.
 fn options_of(kind: ScanKind, workers: u8) -> ScanOptions {
     ScanOptions {
         kind,
@@ -65,9 +65,8 @@ fn options_of(kind: ScanKind, workers: u8) -> ScanOptions {
     }
 }
 
-/// Whether a scan of such a table by so many workers ends so with each request refused in turn, alone and with all
-/// behind it; one worker writes some lines with the last refused alone. How many these are hangs on how their memory
-/// grows.
+/// Returns whether such a scan is right with each allocation failing in turn, alone and together with all later ones.
+/// One worker has to write some lines if the last allocation fails alone; how many depends on how their memory grows.
 fn is_swept<H: Threads + Wait + Sync>(
     rt: &H,
     alloc: Global,
@@ -109,7 +108,7 @@ fn each_request_for_a_bag_refused_in_turn(rt: HostRuntime) {
     assert!(rt; is_swept(&rt, rt.alloc(), duplicates, 2, INPUT, OF_DUPLICATE_BAG));
 }
 
-/// Why a scan of no object with such options is refused, which writes nothing.
+/// Returns why a scan of this input with these options is rejected; it has to write nothing.
 fn refused<H: Threads + Wait + Sync>(
     rt: &H,
     alloc: Global,
@@ -140,7 +139,7 @@ fn options_outside_their_ranges_are_refused(rt: HostRuntime) {
             parts,
             workers,
         };
-        // They are refused before the text is.
+        // The options are rejected before the text is.
         assert!(rt; refused(&rt, rt.alloc(), options, "[") == Some(ToolFault::BadOptions));
     }
 }

@@ -1,4 +1,4 @@
-//! Commands whose reader or writer fails at each of its calls in turn, gives little at a time, takes nothing or is
+//! Commands whose reader or writer fails at each of its calls in turn, gives a byte at a time, accepts nothing or is
 //! interrupted.
 use crate::sweeps::lines_in;
 use kit_streams::{FILE, FailingReader, FailingWriter, Failure, INPUT, SlowReader};
@@ -24,24 +24,24 @@ struct Case {
     input: &'static str,
 }
 
-/// What is tried of a command.
+/// What is tried with a command.
 #[derive(Clone, Copy)]
 enum Trial {
-    /// Its reader fails.
+    /// Its reader fails at each call in turn.
     Unread,
-    /// Its writer fails so at a call.
+    /// Its writer fails in this way at each call in turn.
     Unwritten(Failure),
-    /// Its reader gives a byte at a time, and is interrupted before each or not.
+    /// Its reader gives a byte at a time, and is interrupted before each if this is `true`.
     Slow(bool),
 }
 
 /// Commands on a table, each with a reply.
 const SCRIPT: &str = "{open,set,1,1,1}. {insert,0,{1,[a]}}. {lookup,0,1}. {close}.";
 
-/// The same for a shell, and a text that is refused.
+/// Commands on a table for a shell, and a text that is rejected.
 const SHELL: &str = "{open,set,1,1,1}.\n{insert,0,{1,[a]}}.\n{lookup 0,1}.\n{close}.\n";
 
-/// What a shell replies.
+/// The replies of a shell to these commands.
 const REPLIES: [&str; 4] = ["true.\n", "true.\n", "{error,5,8}.\n", "[{1,[a]}].\n"];
 
 /// Each command that reads, a scan by two workers.
@@ -86,8 +86,8 @@ const CASES: [Case; 8] = [
 ];
 
 impl Case {
-    /// How many replies a command has made where its reader fails at this call: a shell those to the lines that were
-    /// read before, and each other none.
+    /// Returns how many replies a command has made if its reader fails at this call: for a shell those to the lines
+    /// that were read before, for any other command none.
     fn replies_before(self, call: u32) -> usize {
         match self.request {
             Request::Shell => {
@@ -100,7 +100,7 @@ impl Case {
     }
 }
 
-/// The status of a command over these streams.
+/// Returns the exit status of a command over these streams.
 pub(crate) fn status_of<H: Threads + Wait + Sync, R: Read, W: Write, E: Write + Drop>(
     rt: &H,
     alloc: Global,
@@ -112,7 +112,7 @@ pub(crate) fn status_of<H: Threads + Wait + Sync, R: Read, W: Write, E: Write + 
     run_request::<H, HashPart<Global>, _, _, _, _>(rt, alloc, request, reader, writer, err)
 }
 
-/// The status of a command over these streams, and whether it tells this line.
+/// Returns the exit status of a command over these streams, and whether it reports this error line.
 fn ended<H: Threads + Wait + Sync, R: Read, W: Write>(
     rt: &H,
     alloc: Global,
@@ -126,7 +126,7 @@ fn ended<H: Threads + Wait + Sync, R: Read, W: Write>(
     (status, err.writer.as_slice() == line.as_bytes())
 }
 
-/// Whether these are so many of a shell's replies.
+/// Returns whether the output is the first `lines` replies of a shell.
 fn is_replied(written: &[u8], lines: usize) -> bool {
     let mut rest = written;
     for place in 0..REPLIES.len().min(lines) {
@@ -138,7 +138,8 @@ fn is_replied(written: &[u8], lines: usize) -> bool {
     rest.is_empty()
 }
 
-/// Whether a command whose reader fails at this call is refused for that, and writes what it has replied before.
+/// Returns whether a command whose reader fails at this call ends with that fault, and writes the replies that it has
+/// made before.
 fn is_unread<H: Threads + Wait + Sync>(rt: &H, alloc: Global, case: Case, call: u32) -> bool {
     let mut reader = FailingReader {
         bytes: case.input.as_bytes(),
@@ -156,7 +157,7 @@ fn is_unread<H: Threads + Wait + Sync>(rt: &H, alloc: Global, case: Case, call: 
     ended == (4, true) && is_replied(out.as_slice(), case.replies_before(call))
 }
 
-/// How many calls of its reader a command makes that ends well; 0 where it doesn't.
+/// Returns how many calls of its reader a command makes that succeeds, or 0 if it does not succeed.
 fn reads_of<H: Threads + Wait + Sync>(rt: &H, alloc: Global, case: Case) -> u32 {
     let mut reader = FailingReader {
         bytes: case.input.as_bytes(),
@@ -170,7 +171,8 @@ fn reads_of<H: Threads + Wait + Sync>(rt: &H, alloc: Global, case: Case) -> u32 
     }
 }
 
-/// Whether a command is refused at each call of its reader in turn, that which finds the end among them.
+/// Returns whether a command ends with the fault at each call of its reader in turn, including the one that finds the
+/// end.
 fn is_refused_at_each_read<H: Threads + Wait + Sync>(rt: &H, alloc: Global, case: Case) -> bool {
     let reads = reads_of(rt, alloc, case);
     let mut is_right = 1 < reads;
@@ -180,7 +182,7 @@ fn is_refused_at_each_read<H: Threads + Wait + Sync>(rt: &H, alloc: Global, case
     is_right
 }
 
-/// Whether a command whose writer fails so at this call is refused for that.
+/// Returns whether a command whose writer fails in this way at this call ends with that fault.
 fn is_unwritten<H: Threads + Wait + Sync>(
     rt: &H,
     alloc: Global,
@@ -195,7 +197,7 @@ fn is_unwritten<H: Threads + Wait + Sync>(
     ended == (4, true)
 }
 
-/// Whether a command whose writer is interrupted at this call writes the same.
+/// Returns whether a command whose writer is interrupted at this call writes its whole output.
 fn is_written_all_the_same<H: Threads + Wait + Sync>(
     rt: &H,
     alloc: Global,
@@ -212,8 +214,8 @@ fn is_written_all_the_same<H: Threads + Wait + Sync>(
     }
 }
 
-/// How many calls of its writer a command makes that ends well, with its flushes where these may fail; 0 where it
-/// doesn't.
+/// Returns how many calls of its writer a command makes that succeeds, or 0 if it does not succeed. Flushes count if
+/// they may fail.
 fn writes_of<H: Threads + Wait + Sync>(rt: &H, alloc: Global, case: Case, failure: Failure) -> u32 {
     let mut reader = case.input.as_bytes();
     let mut writer = FailingWriter::new(alloc, MOST_CALLS, failure);
@@ -224,7 +226,8 @@ fn writes_of<H: Threads + Wait + Sync>(rt: &H, alloc: Global, case: Case, failur
     }
 }
 
-/// Whether a command is refused at each call of its writer in turn, or writes the same where that is interrupted.
+/// Returns whether a command ends with the fault at each call of its writer in turn, or writes its whole output if that
+/// call is interrupted.
 fn is_right_at_each_write<H: Threads + Wait + Sync>(
     rt: &H,
     alloc: Global,
@@ -244,7 +247,7 @@ fn is_right_at_each_write<H: Threads + Wait + Sync>(
     is_right
 }
 
-/// What a command writes that ends well.
+/// Returns what a command writes that succeeds.
 fn written<H: Threads + Wait + Sync, R: Read>(
     rt: &H,
     alloc: Global,
@@ -259,7 +262,7 @@ fn written<H: Threads + Wait + Sync, R: Read>(
     }
 }
 
-/// Whether a command writes the same of a reader that gives a byte at a time.
+/// Returns whether a command writes the same with a reader that gives a byte at a time.
 fn is_read_slowly<H: Threads + Wait + Sync>(
     rt: &H,
     alloc: Global,
@@ -282,7 +285,7 @@ fn is_read_slowly<H: Threads + Wait + Sync>(
     }
 }
 
-/// Whether a trial of a command comes out right.
+/// Returns whether a trial of a command is right.
 fn is_right<H: Threads + Wait + Sync>(rt: &H, alloc: Global, case: Case, trial: Trial) -> bool {
     match trial {
         Trial::Unread => is_refused_at_each_read(rt, alloc, case),
@@ -291,7 +294,7 @@ fn is_right<H: Threads + Wait + Sync>(rt: &H, alloc: Global, case: Case, trial: 
     }
 }
 
-/// The first of these commands whose trial doesn't come out right.
+/// Returns the index of the first of these commands whose trial is not right.
 fn first_wrong_of<H: Threads + Wait + Sync>(
     rt: &H,
     alloc: Global,
@@ -306,7 +309,7 @@ fn first_wrong_of<H: Threads + Wait + Sync>(
     None
 }
 
-/// The first command whose trial doesn't come out right.
+/// Returns the index of the first of all commands whose trial is not right.
 fn first_wrong<H: Threads + Wait + Sync>(rt: &H, alloc: Global, trial: Trial) -> Option<usize> {
     first_wrong_of(rt, alloc, &CASES, trial)
 }

@@ -1,7 +1,7 @@
-//! How many lines are written where a request for memory is refused: no fewer the later it comes, and at the last all
-//! but the last of a script, and some of a scan.
+//! How many lines are written if an allocation fails: no fewer the later it comes. If the last one fails, a script
+//! writes all but its last line, and a scan some of them.
 
-/// How many lines end in what was written.
+/// Returns how many lines end in the output.
 pub(crate) fn lines_in(written: &[u8]) -> usize {
     let mut lines: usize = 0;
     for byte in written {
@@ -12,15 +12,15 @@ pub(crate) fn lines_in(written: &[u8]) -> usize {
     lines
 }
 
-/// What was written in the runs of a sweep that ended for want of memory.
+/// The output of the runs of a sweep that ended with out of memory.
 #[derive(Clone, Copy, Debug)]
 pub(crate) struct Written {
-    /// How many lines in the last of them.
+    /// The number of lines in the last of them.
     pub(crate) lines: usize,
 }
 
 impl Written {
-    /// Whether a further one wrote no fewer.
+    /// Records the output of one more run, and returns whether it has no fewer lines than that of the run before.
     pub(crate) fn goes_on(&mut self, written: &[u8]) -> bool {
         let before = self.lines;
         self.lines = lines_in(written);

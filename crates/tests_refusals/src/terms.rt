@@ -1,4 +1,4 @@
-//! Terms: what takes no memory, and that a limit is told without it.
+//! Terms: which calls do not allocate, and that a limit is reported without memory.
 use kit_alloc::Failing;
 use kit_rows::{term_of, was_ok};
 use std::alloc::{Allocator, Global};
@@ -7,7 +7,7 @@ use term_core::{ShortRow, Term};
 use term_operand::Operand;
 use term_text::{read_terms, write_term};
 
-/// Whether the term is this text's and one level deep.
+/// Returns whether a term has this text and a depth of 1.
 fn is_leaf(alloc: Global, term: Term, text: &str) -> bool {
     let mut out = Vec::new(alloc);
     let is_written = write_term(&term, &mut out).is_ok() && out.as_slice() == text.as_bytes();
@@ -22,7 +22,7 @@ fn integers_and_nil_alone_take_no_memory(rt: HostRuntime) {
     assert!(rt; is_leaf(rt.alloc(), Term::nil(), "[]"));
 }
 
-/// So many times the text of an integer and a dot.
+/// Returns the text of an integer and a dot, `count` times.
 fn ones(alloc: Global, count: u32) -> Option<Vec<u8>> {
     let mut out = Vec::new(alloc);
     for _ in 0..count {
@@ -31,7 +31,7 @@ fn ones(alloc: Global, count: u32) -> Option<Vec<u8>> {
     Some(out)
 }
 
-/// How many requests for memory it takes to read a text.
+/// Returns the number of allocations that reading a text takes.
 fn requests_to_read(alloc: Global, text: &[u8]) -> Option<u64> {
     let counting = Failing::counting(alloc);
     if was_ok(read_terms(&counting, text)) {
@@ -41,13 +41,13 @@ fn requests_to_read(alloc: Global, text: &[u8]) -> Option<u64> {
     }
 }
 
-/// An allocator that refuses each request once a text is read.
+/// Returns an allocator of which each allocation fails once a text has been read.
 fn refusing_once_read(alloc: Global, text: &[u8]) -> Option<Failing<Global>> {
     let requests = requests_to_read(alloc, text)?;
     Some(Failing::refusing_from(alloc, requests.saturating_add(1)))
 }
 
-/// The fault of the tuple of a text's terms.
+/// Returns the fault of making a tuple of a text's terms, or `None` if there is none.
 fn fault_of<A: Allocator + Copy>(heap: A, text: &[u8]) -> Option<Fault> {
     let made = Term::tuple(heap, read_terms(heap, text).ok()?);
     let fault = match &made {
@@ -58,12 +58,12 @@ fn fault_of<A: Allocator + Copy>(heap: A, text: &[u8]) -> Option<Fault> {
     fault
 }
 
-/// The same, when each request is refused once they are read.
+/// Returns the fault of making a tuple of a text's terms with each allocation failing once they have been read.
 fn fault_without_memory(alloc: Global, text: &[u8]) -> Option<Fault> {
     fault_of(&refusing_once_read(alloc, text)?, text)
 }
 
-/// The same of so many integers.
+/// Returns the fault of making a tuple of `count` integers with each allocation failing once they have been read.
 fn fault_of_many(alloc: Global, count: u32) -> Option<Fault> {
     fault_without_memory(alloc, ones(alloc, count)?.as_slice())
 }
@@ -74,7 +74,7 @@ fn a_limit_is_told_without_memory(rt: HostRuntime) {
     assert!(rt; fault_of_many(rt.alloc(), 65_536) == Some(TooLong));
 }
 
-/// Whether the only term of a text is copied.
+/// Returns whether the term of a text can be copied.
 fn is_copied<A: Allocator + Copy>(heap: A, text: &[u8]) -> Option<bool> {
     let term = term_of(heap, text)?;
     let is_copied = was_ok(term.copy());
@@ -82,7 +82,7 @@ fn is_copied<A: Allocator + Copy>(heap: A, text: &[u8]) -> Option<bool> {
     Some(is_copied)
 }
 
-/// The same, when each request is refused once it is read.
+/// Returns whether the term of a text can be copied with each allocation failing once it has been read.
 fn is_copied_without_memory(alloc: Global, text: &[u8]) -> Option<bool> {
     is_copied(&refusing_once_read(alloc, text)?, text)
 }
@@ -94,7 +94,7 @@ fn a_copy_takes_no_memory(rt: HostRuntime) {
     assert!(rt; is_copied_without_memory(rt.alloc(), b"7.") == Some(true));
 }
 
-/// Whether what is left behind the first element of the list of a text is made.
+/// Returns whether a term can be made of what follows the first element of the list of a text.
 fn is_rest_made<A: Allocator + Copy>(heap: A, text: &[u8]) -> Option<bool> {
     let list = term_of(heap, text)?;
     let is_made = was_ok(Operand::Rest(&list, 1).to_term(heap));
@@ -102,7 +102,8 @@ fn is_rest_made<A: Allocator + Copy>(heap: A, text: &[u8]) -> Option<bool> {
     Some(is_made)
 }
 
-/// The same, when each request is refused once it is read.
+/// Returns whether a term can be made of what follows the first element of the list of a text, with each allocation
+/// failing once it has been read.
 fn is_rest_shared(alloc: Global, text: &[u8]) -> Option<bool> {
     is_rest_made(&refusing_once_read(alloc, text)?, text)
 }
@@ -131,7 +132,7 @@ fn four<A: Allocator>() -> ShortRow<A> {
     ShortRow::Four([Term::int(1), Term::int(2), Term::int(3), Term::int(4)])
 }
 
-/// The shortest terms that take memory.
+/// The shortest terms that need memory.
 #[derive(Clone, Copy)]
 enum Shortest {
     TupleOfOne,
@@ -142,7 +143,7 @@ enum Shortest {
     ListOfFour,
 }
 
-/// Whether one of them is made.
+/// Makes one of them, and returns whether that succeeded.
 fn is_made<A: Allocator + Copy>(heap: A, shortest: Shortest) -> bool {
     match shortest {
         Shortest::TupleOfOne => was_ok(Term::short_tuple(heap, ShortRow::One([Term::int(1)]))),
@@ -154,7 +155,7 @@ fn is_made<A: Allocator + Copy>(heap: A, shortest: Shortest) -> bool {
     }
 }
 
-/// How many requests for memory one of them takes.
+/// Returns the number of allocations that making one of them takes.
 fn requests_of(alloc: Global, shortest: Shortest) -> Option<u64> {
     let counting = Failing::counting(alloc);
     if is_made(&counting, shortest) {

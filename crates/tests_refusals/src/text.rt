@@ -4,7 +4,7 @@ use std::alloc::{AllocError, Allocator, Global};
 use term_core::Term;
 use term_text::{TextFault, read_terms, write_term};
 
-/// The canonical texts of these terms, a dot behind each and a bar between.
+/// Returns the canonical texts of these terms, each followed by a dot, with bars between them.
 fn joined<A: Allocator>(alloc: Global, terms: &[Term<A>]) -> Result<Vec<u8>, AllocError> {
     let mut out = Vec::new(alloc);
     for term in terms {
@@ -23,7 +23,7 @@ const WRITING: &str = "[{a,'b c',-7},#{k=>\"hi\"}|<<1>>].";
 
 const WRITTEN: &str = ">[{a,'b c',-7},#{k=>[104,105]}|<<1>>]";
 
-/// Whether the terms of a text are read, none for want of memory.
+/// Returns whether the terms of a text are read as they have to be, or `None` if memory runs out.
 pub(super) fn is_read<A: Allocator + Copy>(alloc: Global, heap: A) -> Option<bool> {
     match read_terms(heap, EVERY_KIND.as_bytes()) {
         Ok(terms) => {
@@ -36,7 +36,8 @@ pub(super) fn is_read<A: Allocator + Copy>(alloc: Global, heap: A) -> Option<boo
     }
 }
 
-/// Whether a term is written behind a text, none where memory is wanted and the text is as before.
+/// Returns whether a term is appended to a text as it has to be, or `None` if memory runs out and the text is
+/// unchanged.
 fn is_term_written<A: Allocator + Copy>(heap: A, term: &Term) -> Option<bool> {
     let mut out = Vec::new(heap);
     out.push(b'>').ok()?;
@@ -52,7 +53,7 @@ fn is_term_written<A: Allocator + Copy>(heap: A, term: &Term) -> Option<bool> {
     }
 }
 
-/// Whether the term of a text is written behind a text, none for want of memory.
+/// Returns whether the term of a text is appended to a text as it has to be, or `None` if memory runs out.
 pub(super) fn is_written<A: Allocator + Copy>(alloc: Global, heap: A) -> Option<bool> {
     let term = term_of(alloc, WRITING.as_bytes())?;
     let is_written = is_term_written(heap, &term);

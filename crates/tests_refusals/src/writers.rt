@@ -1,4 +1,4 @@
-//! Writers that fail, or hold all back until they are flushed.
+//! Writers that fail, or hold all bytes back until they are flushed.
 use crate::streams::status_of;
 use kit_streams::{FILE, FailingWriter, Failure, HoldingWriter, INPUT};
 use std::alloc::Global;
@@ -10,7 +10,8 @@ use tool_io::ToolFault;
 use tool_query::tool_run;
 use tool_scan::{ScanKind, ScanOptions};
 
-/// Whether a command over this input has passed these lines on by its end, of a writer that holds them back.
+/// Returns whether a command over this input has passed these lines on when it ends, to a writer that holds bytes back
+/// until it is flushed.
 fn passes_on<H: Threads + Wait + Sync>(
     rt: &H,
     alloc: Global,
@@ -34,7 +35,7 @@ const MATCHED: &str = "[{{'$1'},[],['$1']}]. {1}. a.";
 /// The file of the code of a specification without clauses.
 const EMPTY: &str = "<<69,77,83,67,0,1,0,0,0,0,0,1,25,0,0>>.\n";
 
-/// What is said of it.
+/// Its explanation.
 const EXPLAINED: &str = "\
 walk at keypos 1: 0 looked up:
 instructions of a run at most 1, stack at most 0
@@ -91,14 +92,15 @@ fn run_writing(alloc: Global, call: u32) -> Result<(), ToolFault> {
 
 #[test]
 fn a_writer_that_fails_is_refused(rt: HostRuntime) {
-    // Its six bytes, and a flush.
+    // The calls for its six bytes, and the flush.
     for call in 1..8 {
         assert!(rt; run_writing(rt.alloc(), call) == Err(ToolFault::WriteFailed));
     }
     assert!(rt; run_writing(rt.alloc(), 60) == Ok(()));
 }
 
-/// The status of `help` where standard output fails behind its beginning, and whether it writes this on standard error.
+/// Returns the exit status of `help` if standard output fails at the third byte, and whether this is what standard
+/// error gets.
 fn left_by_unwritten_help<H: Threads + Wait + Sync>(
     rt: &H,
     alloc: Global,
@@ -117,8 +119,8 @@ fn help_that_cannot_be_written_is_refused(rt: HostRuntime) {
     assert!(rt; left_by_unwritten_help(&rt, rt.alloc(), "error E71\n") == (4, true));
 }
 
-/// The status of `run` where the first term is no specification and standard error fails, and whether it is kept that
-/// it did.
+/// Returns the exit status of `run` if the first term is no specification and standard error fails, and whether that
+/// failure is remembered.
 fn left_by_an_untold_refusal<H: Threads + Wait + Sync>(rt: &H, alloc: Global) -> (u8, bool) {
     let mut reader = "a.".as_bytes();
     let mut out = Vec::new(alloc);
@@ -128,7 +130,8 @@ fn left_by_an_untold_refusal<H: Threads + Wait + Sync>(rt: &H, alloc: Global) ->
     (status, err.has_failed)
 }
 
-/// Whether the same passes this line on of a standard error that holds it back, and whether it says that it failed.
+/// Returns whether a standard error that holds bytes back gets this line passed on when the first term of `run` is no
+/// specification, and whether it reports a failure.
 fn passed_on_of_a_refusal<H: Threads + Wait + Sync>(
     rt: &H,
     alloc: Global,

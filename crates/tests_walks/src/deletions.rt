@@ -1,6 +1,6 @@
-//! Deletions with each request for memory refused in turn, alone and with all behind it: the number of a refused one is
-//! that of the objects of whole visits, which are gone, it leaves the fixes of its session as they were, and asked
-//! again it deletes the rest.
+//! Deletions with each allocation failing in turn, alone and together with all later ones. The number of a deletion
+//! that fails is that of the objects of its completed visits, which are deleted. It leaves the fixes of its session
+//! unchanged, and a second deletion deletes the rest.
 ghost use Rattle.std.specs.Prelude.{◌≡◌};
 
 use crate::plays::{Play, fixes_below, query_of};
@@ -16,16 +16,16 @@ use walks::{Query, select_delete};
 
 /// The objects of two parts: four in one class, and one in each of two.
 const OBJECTS: &str = "{0,a}. {16,b}. {32,c}. {48,d}. {1,e}. {3,f}.";
-/// Each object answers true, by a tuple that is made of its key.
+/// The answer on each object is true, by comparing a tuple that is made of its key.
 const ALL: &str = "[{{'$1','_'},[{'=<',{{0}},{{'$1'}}}],[true]}].";
-/// So do those of three keys that are named; one more isn't there.
+/// The answer is true on the objects of three keys that are named; one more named key has no object.
 const NAMED: &str = "[{{32,'$1'},[{'=<',{{0}},{{'$1'}}}],[true]},{{5,'_'},[],[true]},
     {{1,'$1'},[{'=<',{{0}},{{'$1'}}}],[true]},{{0,'$1'},[{'=<',{{0}},{{'$1'}}}],[true]}].";
 
-/// Each object answers true, by a tuple that is made of its only element.
+/// The answer on each object is true, by comparing a tuple that is made of its only element.
 const EACH: &str = "[{{'$1'},[{'=<',{{0}},{{'$1'}}}],[true]}].";
 
-/// The session fixes one of two parts, or none.
+/// Trials in which the session fixes one of two parts, or none.
 const TRIALS: [Trial; 6] = [
     Trial {
         play: Play {
@@ -95,7 +95,7 @@ const TRIALS: [Trial; 6] = [
     },
 ];
 
-/// Whether there is an object with the key of this one.
+/// Returns whether there is an object with the key of this one.
 fn is_left<A: Allocator, T: Turns<A>>(session: &mut T, object: &Term<A>) -> Option<bool>
     requires { T.is_ready session.old }
     ensures ready { T.is_ready session.new }
@@ -104,8 +104,8 @@ fn is_left<A: Allocator, T: Turns<A>>(session: &mut T, object: &Term<A>) -> Opti
     Some(member(session, fields(object)?.first()?))
 }
 
-/// Puts behind others of each of these objects whether it is left or gone, as `+` or `-`. It takes no memory of the
-/// table's allocator.
+/// Appends a mark for each of these objects: `+` if its key has an object, `-` if it is deleted. It does not allocate
+/// from the table's allocator.
 pub(crate) fn put_marks<A: Allocator, T: Turns<A>>(
     session: &mut T,
     objects: &[Term<A>],
@@ -126,7 +126,7 @@ pub(crate) fn put_marks<A: Allocator, T: Turns<A>>(
     Some(())
 }
 
-/// How many objects are gone by these marks.
+/// Returns how many of these marks say that an object is deleted.
 pub(crate) fn gone_of(marks: &[u8]) -> u64 {
     let mut gone: u64 = 0;
     for mark in marks {
@@ -137,7 +137,8 @@ pub(crate) fn gone_of(marks: &[u8]) -> u64 {
     gone
 }
 
-/// How a deletion that says so many leaves its session and these objects.
+/// Returns the stage after a deletion with this number: the number, and the marks of these objects. Records whether the
+/// session has the fixes that it had.
 fn stage<A: Allocator, T: Turns<A>>(
     alloc: Global,
     watch: &mut Watch<'_>,
@@ -161,7 +162,7 @@ fn stage<A: Allocator, T: Turns<A>>(
     }
 }
 
-/// A deletion: how many objects it says, and whether it was refused.
+/// Makes a deletion. Returns how many objects it deleted, and whether it failed.
 fn deleted<A: Allocator, T: Turns<A>>(
     watch: &mut Watch<'_>,
     session: &mut T,
@@ -179,7 +180,7 @@ fn deleted<A: Allocator, T: Turns<A>>(
     (count, is_refused)
 }
 
-/// Puts a stage behind others, where the last isn't the same.
+/// Appends a stage, unless the last one is equal to it.
 fn put_stage(stage: &[u8], stages: &mut Vec<u8>) -> Option<()> {
     if stages.as_slice().ends_with(stage) {
         return Some(());
@@ -187,8 +188,8 @@ fn put_stage(stage: &[u8], stages: &mut Vec<u8>) -> Option<()> {
     stages.extend_from_slice(stage).ok()
 }
 
-/// Whether a deletion that said so many and was refused at this stage is right, asked again. The stage is put behind
-/// those before; refused again, it has deleted nothing more.
+/// Returns whether a deletion that failed at this stage, with this number, is right when it is made again, and appends
+/// the stage. If it fails again, it must have deleted nothing more.
 fn is_deleted_again<A: Allocator, T: Turns<A>>(
     alloc: Global,
     watch: &mut Watch<'_>,
@@ -221,7 +222,7 @@ fn is_deleted_again<A: Allocator, T: Turns<A>>(
     Some(is_right)
 }
 
-/// Whether a deletion is right at these objects, asked again where it is refused.
+/// Returns whether a deletion is right at these objects; it is made again if it fails.
 fn is_deleted<A: Allocator, T: Turns<A>>(
     alloc: Global,
     watch: &mut Watch<'_>,
@@ -247,7 +248,7 @@ fn is_deleted<A: Allocator, T: Turns<A>>(
     is_right
 }
 
-/// The same by its own query; none where there is no memory for it.
+/// Makes the trial's query, and returns whether a deletion by it is right, or `None` if memory runs out for the query.
 pub(crate) fn is_deleted_by<A: Allocator + Copy, T: Turns<A>>(
     alloc: Global,
     heap: A,
@@ -266,7 +267,7 @@ pub(crate) fn is_deleted_by<A: Allocator + Copy, T: Turns<A>>(
     is_right
 }
 
-/// The first of the trials that doesn't hold.
+/// Returns the index of the first of the trials that is not right.
 fn wrong_trial(alloc: Global) -> Option<usize> {
     first_wrong(alloc, &TRIALS)
 }

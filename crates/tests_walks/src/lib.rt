@@ -1,15 +1,17 @@
-//! Tests of walks: of one session whose memory is refused, and of selection by several threads, in which threads run
-//! side by side.
+//! Tests of walks: of one session with failing allocations, and of selection by several threads, which run at the same
+//! time.
 //!
-//! It has no code of its own. What a test here calls is proved in its own crate once, and not a second time with its
-//! tests. What holds terms is let go by `drop`, which costs less of a proof than the end of a scope.
+//! It has no code of its own. What a test here calls is proved in its own crate once, and not again with its tests.
+//! Values with terms are dropped by `drop`, which costs less of a proof than the end of a scope.
 //!
-//! - `watch`: what is seen of calls whose requests are refused; `plays`: a table, its objects, and what is asked of it.
-//! - With each request refused in turn (`trials`): `refusals`, whole walks; `deletions`, what refused ones say;
-//!   `writers`, walks in pieces, between which another session writes.
+//! - `watch`: what is checked of calls with failing allocations; `plays`: a table, its objects, and what is requested
+//!   of it.
+//! - With each allocation failing in turn (`trials`): `refusals`, whole walks; `deletions`, the numbers of deletions
+//!   that fail; `writers`, walks in pieces, between which another session writes.
 //! - `lists`: lists of objects.
-//! - `seats`: members of a selection that wait for each other. `members`: what members come to, over tables of both
-//!   sorts; `selections`: the tests of that; `refused_members`: the same with each request refused in turn.
+//! - `seats`: members of a selection that wait for each other. `members`: results of calls by members, over tables of
+//!   both sorts; `selections`: the tests of that; `refused_members`: calls by members with each allocation failing in
+//!   turn.
 #![tactic(auto)]
 
 #[cfg(test)]

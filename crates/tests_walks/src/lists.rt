@@ -1,5 +1,5 @@
-//! The answers on lists of objects: each object's at its place, as a run of its own gives it, of few objects and of
-//! many; and with each request for memory refused in turn.
+//! The answers on lists of objects: each object's at its place, equal to that of a run of its own, for few objects and
+//! for many; and with each allocation failing in turn.
 use crate::watch::Watch;
 use compiler::compile;
 use kit_alloc::{Failing, Plan};
@@ -13,13 +13,13 @@ use term_core::{Term, View};
 use term_text::read_terms;
 use verifier::Verified;
 
-/// It answers with each number that is even.
+/// A specification whose answer is each number that is even.
 const EVEN: &[u8] = b"[{{'$1'},[{'==',{'rem','$1',2},0}],['$1']}].";
 
-/// The most requests for memory that a list makes.
+/// The maximal number of allocations for a list.
 const MOST_REQUESTS: u64 = 1_000;
 
-/// The text of `{1}`, `{2}` and so on, so many.
+/// Returns the text of `count` objects `{1}`, `{2}` and so on.
 fn text_of(alloc: Global, count: usize) -> Option<String> {
     let mut text = String::new(alloc);
     let mut is_whole = true;
@@ -35,7 +35,7 @@ fn text_of(alloc: Global, count: usize) -> Option<String> {
     }
 }
 
-/// The code of `EVEN`.
+/// Returns the code of `EVEN`.
 fn code<A: Allocator + Copy>(heap: A) -> Option<Verified<A>> {
     let term = term_of(heap, EVEN)?;
     let specification = read_spec(heap, &term);
@@ -48,7 +48,7 @@ fn code<A: Allocator + Copy>(heap: A) -> Option<Verified<A>> {
     code.ok()
 }
 
-/// The number that is answered, 0 where there is no answer.
+/// Returns the number that is the answer, or 0 if there is no answer.
 fn number<A: Allocator>(answer: &Option<Term<A>>) -> Option<i64> {
     match answer {
         Some(answer) => match answer.view() {
@@ -59,7 +59,7 @@ fn number<A: Allocator>(answer: &Option<Term<A>>) -> Option<i64> {
     }
 }
 
-/// Whether these are the answers on `{1}`, `{2}` and so on.
+/// Returns whether these are the answers on `{1}`, `{2}` and so on.
 fn are_even<A: Allocator>(answers: &[Option<Term<A>>]) -> bool {
     let mut wanted: i64 = 0;
     for answer in answers {
@@ -72,7 +72,7 @@ fn are_even<A: Allocator>(answers: &[Option<Term<A>>]) -> bool {
     true
 }
 
-/// Whether this is what a run of its own answers on an object.
+/// Returns whether the answer on an object is that of a run of its own.
 fn is_plain<A: Allocator + Copy>(
     heap: A,
     code: &Verified<A>,
@@ -88,7 +88,7 @@ fn is_plain<A: Allocator + Copy>(
     is_same
 }
 
-/// Whether each object has the answer of a run of its own.
+/// Returns whether the answer on each object is that of a run of its own.
 fn are_plain<A: Allocator + Copy>(
     heap: A,
     code: &Verified<A>,
@@ -103,8 +103,8 @@ fn are_plain<A: Allocator + Copy>(
     true
 }
 
-/// Whether a list is answered, and its answers are right, and where no request is to be refused those of runs of their
-/// own; none where it is refused.
+/// Returns whether the answers on a list are right, and equal to those of runs of their own if no allocation is to
+/// fail. Returns `None` if memory runs out.
 fn are_right<'h, R: Threads + Sync>(
     rt: &R,
     heap: &'h Failing<Global>,
@@ -128,20 +128,21 @@ fn are_right<'h, R: Threads + Sync>(
     }
 }
 
-/// What came of a list.
+/// The result for a list.
 #[derive(Clone, Copy)]
 struct Came {
-    /// How many requests there were until the code and the objects were there.
+    /// The number of allocations for the code and the objects.
     before: u64,
-    /// How many objects there are.
+    /// The number of objects.
     count: usize,
-    /// It was refused at first.
+    /// Memory ran out at the first attempt.
     is_refused: bool,
-    /// It was refused exactly where a request was, and its answers are right, at once or when it is asked for again.
+    /// Memory ran out exactly if an allocation failed, and the answers are right, at the first attempt or at the
+    /// second.
     is_right: bool,
 }
 
-/// What comes of a list, asked for again where it is refused.
+/// Returns the result for a list, which is tried again if memory runs out.
 fn came_of<'h, R: Threads + Sync>(
     rt: &R,
     heap: &'h Failing<Global>,
@@ -167,7 +168,7 @@ fn came_of<'h, R: Threads + Sync>(
     }
 }
 
-/// The same of the objects of a text; none where there is no memory for the code and the objects.
+/// Returns the result for the objects of a text, or `None` if memory runs out for the code and the objects.
 fn listed<R: Threads + Sync>(rt: &R, heap: &Failing<Global>, text: &str) -> Option<Came> {
     let code = code(heap)?;
     let objects = read_terms(heap, text.as_bytes());
@@ -180,14 +181,15 @@ fn listed<R: Threads + Sync>(rt: &R, heap: &Failing<Global>, text: &str) -> Opti
     came
 }
 
-/// The same by a plan of what is refused; none also where a block is left.
+/// Returns the result for the objects of a text, with allocations failing according to a plan. Returns `None` if memory
+/// runs out for the code and the objects, or a block is left allocated.
 fn planned<R: Threads + Sync>(rt: &R, alloc: Global, plan: Plan, text: &str) -> Option<Came> {
     let heap = Failing::new(alloc, plan);
     let came = listed(rt, &heap, text);
     if heap.blocks() == 0 { came } else { None }
 }
 
-/// Whether so many objects are answered, each at its place.
+/// Returns whether the answers on `count` objects are right, each at its place.
 fn is_answered<R: Threads + Sync>(rt: &R, alloc: Global, count: usize) -> bool {
     let Some(text) = text_of(alloc, count) else {
         return false;
@@ -200,8 +202,8 @@ fn is_answered<R: Threads + Sync>(rt: &R, alloc: Global, count: usize) -> bool {
     }
 }
 
-/// With how many requests for memory the objects of a text are answered, where each is refused in turn, alone or with
-/// all behind it.
+/// Returns how many allocations the answers on the objects of a text take, where each fails in turn, alone or together
+/// with all later ones.
 fn refusals<R: Threads + Sync>(rt: &R, alloc: Global, text: &str, onward: bool) -> Option<u64> {
     let before = planned(rt, alloc, Plan::Never, text)?.before;
     for request in 1..MOST_REQUESTS {
@@ -222,7 +224,8 @@ fn refusals<R: Threads + Sync>(rt: &R, alloc: Global, text: &str, onward: bool) 
     None
 }
 
-/// The same of so many objects.
+/// Returns how many allocations the answers on `count` objects take, where each fails in turn, alone or together with
+/// all later ones.
 fn refusals_of<R: Threads + Sync>(
     rt: &R,
     alloc: Global,
@@ -245,9 +248,9 @@ fn answers_each_object_at_its_place(rt: HostRuntime) {
 #[test]
 fn is_refused_where_memory_is(rt: HostRuntime) {
     for onward in [false, true] {
-        // The answers of few objects are one run.
+        // Few objects are answered in one run.
         assert!(rt; refusals_of(&rt, rt.alloc(), 3, onward) == Some(1));
-        // Those of many are several, which are put together.
+        // Many objects are answered in several runs, whose answers are put together.
         let many = refusals_of(&rt, rt.alloc(), 5_000, onward);
         assert!(rt; many.is_some_and(|requests| requests > 3));
     }

@@ -1,4 +1,5 @@
-//! What members of a selection come to: sessions of a table on threads of their own, and of tables on one thread.
+//! The results of calls by members of a selection: sessions of a table on threads of their own, and of tables on one
+//! thread.
 ghost use Rattle.std.specs.Prelude.{◌≡◌, ◌<◌, All, IfSome, map};
 ghost use Rattle.tables.specs.Opened.{AllOpened};
 ghost use Rattle.tables.specs.Sessions.{IsOpened};
@@ -22,15 +23,15 @@ use walks::Query;
 /// What members do together.
 #[derive(Clone, Copy)]
 pub(crate) enum Call {
-    /// They answer.
+    /// They select answers.
     Select,
-    /// They count.
+    /// They count the objects for which the answer is true.
     Count,
-    /// They delete.
+    /// They delete the objects for which the answer is true.
     Delete,
 }
 
-/// What a set is opened with.
+/// Returns the options of a set.
 pub(crate) fn options(parts: u8, sessions: u8) -> Options
     ensures { result.sessions ≡ sessions }
 {
@@ -43,7 +44,7 @@ pub(crate) fn options(parts: u8, sessions: u8) -> Options
     }
 }
 
-/// Whether what came is this text.
+/// Returns whether a result is this text.
 pub(crate) fn is_text(came: Option<Vec<u8>>, wanted: &str) -> bool {
     match came {
         Some(text) => {
@@ -55,7 +56,7 @@ pub(crate) fn is_text(came: Option<Vec<u8>>, wanted: &str) -> bool {
     }
 }
 
-/// What comes of a call: the answers, the number, or the number of its refusal.
+/// Returns the result of a call: the answers, the number, or the error code.
 fn called<R: Threads + Wait + Sync, T: Turns<Global> + Send>(
     rt: &R,
     alloc: Global,
@@ -86,7 +87,7 @@ fn called<R: Threads + Wait + Sync, T: Turns<Global> + Send>(
     }
 }
 
-/// Whether a member waited in vain.
+/// Returns whether a member waited in vain.
 fn was_alone<T>(members: &[Seat<'_, T>]) -> bool {
     for member in members {
         if member.is_alone {
@@ -96,7 +97,7 @@ fn was_alone<T>(members: &[Seat<'_, T>]) -> bool {
     false
 }
 
-/// Gives a session of a table a seat behind others.
+/// Appends a seat for a session of a table.
 fn seat_one<'t, 'f, R: Wait + Abort, P: Part<Global> + Drop>(
     rt: &'t R,
     table: &'t Table<P>,
@@ -118,7 +119,7 @@ fn seat_one<'t, 'f, R: Wait + Abort, P: Part<Global> + Drop>(
     seats.push(seat).ok().expect(rt, "room for a seat");
 }
 
-/// Gives sessions of a table seats behind others; that of the place `waiter` waits.
+/// Appends seats for sessions of a table; the session with the index `waiter` waits.
 fn seat_all<'t, 'f, R: Wait + Abort, P: Part<Global> + Drop>(
     rt: &'t R,
     table: &'t Table<P>,
@@ -141,7 +142,7 @@ fn seat_all<'t, 'f, R: Wait + Abort, P: Part<Global> + Drop>(
     }
 }
 
-/// What comes of a call of sessions of a table, none of which may wait in vain.
+/// Returns the result of a call by sessions of a table, none of which may wait in vain.
 fn called_at<R: Threads + Wait + Abort + Sync, P: Part<Global> + Drop + Send>(
     rt: &R,
     alloc: Global,
@@ -163,7 +164,7 @@ fn called_at<R: Threads + Wait + Abort + Sync, P: Part<Global> + Drop + Send>(
     came
 }
 
-/// Sessions of a table, and one more behind them.
+/// Returns the sessions of a table with one more appended.
 fn put_back<A: Allocator, P: Part<A> + Drop>(
     _table: &Table<P, A>,
     mut sessions: Vec<Session<P, A>, A>,
@@ -182,7 +183,7 @@ fn put_back<A: Allocator, P: Part<A> + Drop>(
     }
 }
 
-/// A table with objects and all its sessions; none for want of memory.
+/// Opens a table and inserts objects. Returns it with all its sessions, or `None` if memory runs out.
 pub(crate) fn set_with_objects<R: Wait, A: Allocator + Copy, P: Part<A> + Drop>(
     rt: &R,
     heap: A,
@@ -201,8 +202,8 @@ pub(crate) fn set_with_objects<R: Wait, A: Allocator + Copy, P: Part<A> + Drop>(
     }
 }
 
-/// What comes of a call by so many members at a table with objects, the member of the place `waiter` waiting for
-/// another.
+/// Returns the result of a call by this number of members at a table with objects. The member with the index `waiter`
+/// waits for another one.
 pub(crate) fn asked<P: Part<Global> + Drop + Send, R: Threads + Wait + Abort + Sync>(
     rt: &R,
     alloc: Global,
@@ -227,7 +228,7 @@ pub(crate) fn asked<P: Part<Global> + Drop + Send, R: Threads + Wait + Abort + S
     came
 }
 
-/// What comes of a deletion by two members, and of a count by a third behind it.
+/// Returns the results of a deletion by two members, and of a count by a third one afterwards.
 pub(crate) fn deleted_and_counted<P: Part<Global> + Drop + Send, R: Threads + Wait + Abort + Sync>(
     rt: &R,
     alloc: Global,
@@ -252,7 +253,7 @@ pub(crate) fn deleted_and_counted<P: Part<Global> + Drop + Send, R: Threads + Wa
     (deleted, counted)
 }
 
-/// So many tables on one thread.
+/// Returns `count` tables on one thread.
 fn local_tables<R: Abort, P: Part<Global> + Drop>(
     rt: &R,
     alloc: Global,
@@ -271,7 +272,7 @@ fn local_tables<R: Abort, P: Part<Global> + Drop>(
     tables
 }
 
-/// Puts the session of a table behind others.
+/// Appends the session of a table.
 fn put_local<'t, R: Abort, P: Part<Global> + Drop>(
     rt: &R,
     options: Options,
@@ -289,7 +290,7 @@ fn put_local<'t, R: Abort, P: Part<Global> + Drop>(
         .expect(rt, "room for a member");
 }
 
-/// Puts a session of each of these tables behind others.
+/// Appends a session of each of these tables.
 fn put_locals<'t, R: Abort, P: Part<Global> + Drop>(
     rt: &R,
     options: Options,
@@ -310,7 +311,7 @@ fn put_locals<'t, R: Abort, P: Part<Global> + Drop>(
     }
 }
 
-/// What comes of a call by so many members, each of a table of its own that is used by one thread.
+/// Returns the result of a call by this number of members, each of a table of its own on one thread.
 pub(crate) fn asked_alone<P: Part<Global> + Drop + Send, R: Threads + Wait + Abort + Sync>(
     rt: &R,
     alloc: Global,

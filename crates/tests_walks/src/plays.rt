@@ -1,4 +1,4 @@
-//! Tables on one thread, their objects, and what a session asks of them.
+//! Tables on one thread, their objects, and what a session requests of them.
 ghost use Rattle.std.specs.Prelude.{◌≡◌, ◌<◌, IfSome};
 
 use kit_rows::term_of;
@@ -8,20 +8,20 @@ use std::alloc::Allocator;
 use tables::{LocalAt, LocalTable, Options, Turns, fix_at};
 use walks::Query;
 
-/// A table, its objects, and what is asked of it.
+/// A table, its objects, and the specification by which it is walked.
 #[derive(Clone, Copy)]
 pub(crate) struct Play {
     pub(crate) kind: TableKind,
     pub(crate) parts: u8,
     pub(crate) objects: &'static str,
     pub(crate) specification: &'static str,
-    /// The session fixes the parts below this number before it asks.
+    /// The session fixes the parts below this number before its call.
     pub(crate) fixed: u8,
 }
 
-/// A session of a table on one thread, which another session of the table may stand in for.
+/// A session of a table on one thread, which can go on as another session of the table.
 pub(crate) trait Numbered<A: Allocator>: Turns<A> {
-    /// Goes on as the session of a number, and says whether the table has one.
+    /// Goes on as the session with this number, and returns whether the table has one.
     fn goes_on_as(&mut self, number: u8) -> bool
         requires { Self.is_ready self.old }
         ensures { Self.is_ready self.new };
@@ -40,7 +40,7 @@ impl<'t, A: Allocator, P: Part<A> + Drop> Numbered<A> for LocalAt<'t, P, A> {
     }
 }
 
-/// An empty table of two sessions.
+/// Opens an empty table of two sessions, or returns `None` if memory runs out.
 pub(crate) fn opened<P: Part<A> + Drop, A: Allocator + Copy>(
     heap: A,
     play: Play,
@@ -57,7 +57,7 @@ pub(crate) fn opened<P: Part<A> + Drop, A: Allocator + Copy>(
     LocalTable::open(heap, options).ok()
 }
 
-/// The query of a specification.
+/// Returns the query of a specification, or `None`.
 pub(crate) fn query_of<A: Allocator + Copy>(heap: A, specification: &str) -> Option<Query<A>> {
     let term = term_of(heap, specification.as_bytes())?;
     let specification = read_spec(heap, &term);
@@ -70,7 +70,7 @@ pub(crate) fn query_of<A: Allocator + Copy>(heap: A, specification: &str) -> Opt
     query.ok()
 }
 
-/// Fixes the parts below a number.
+/// Fixes the parts below a number, unless they are fixed.
 pub(crate) fn fix_below<A: Allocator, T: Turns<A>>(session: &mut T, fixed: u8)
     requires { T.is_ready session.old }
     ensures ready { T.is_ready session.new }
@@ -85,7 +85,7 @@ pub(crate) fn fix_below<A: Allocator, T: Turns<A>>(session: &mut T, fixed: u8)
     }
 }
 
-/// Whether the session fixes the parts below a number once, and no others.
+/// Returns whether the session fixes the parts below a number once, and no others.
 pub(crate) fn fixes_below<A: Allocator, T: Turns<A>>(session: &T, fixed: u8) -> bool
     requires { T.is_ready session.now }
 {

@@ -1,5 +1,5 @@
-//! Whole walks that answer or count, with each request for memory refused in turn, alone and with all behind it: the
-//! fixes of the session are as they were, and asked again a walk gives what it gives undisturbed.
+//! Whole walks that select or count, with each allocation failing in turn, alone and together with all later ones. The
+//! fixes of the session stay as they were, and a second walk has the result of one that does not fail.
 ghost use Rattle.std.specs.Prelude.{◌≡◌};
 
 use crate::plays::{Play, fixes_below, query_of};
@@ -17,23 +17,23 @@ use walks::{Query, select, select_count};
 pub(crate) enum Call {
     /// All answers.
     Select,
-    /// How many objects answer true.
+    /// The number of objects for which the answer is true.
     Count,
 }
 
-/// Keys of three classes, two of them in one, in two parts.
+/// Six keys of two parts: four of one class, and one of each of two more.
 const KEYS: &str = "{0,a}. {1,b}. {16,c}. {32,d}. {3,e}. {48,f}.";
-/// Each object's second element.
+/// The answer on each object is its second element.
 const SECOND: &str = "[{{'_','$1'},[],['$1']}].";
-/// Objects with a key of at least 16 answer true, by a tuple that is made of each key.
+/// The answer on objects with a key of at least 16 is true, by comparing a tuple that is made of each key.
 const LARGE: &str = "[{{'$1','_'},[{'=<',{{16}},{{'$1'}}}],[true]}].";
-/// Keys that are named, one of them twice, and one that isn't there.
+/// Keys that are named, one of them twice, and one that has no object.
 const NAMED: &str =
     "[{{32,'$1'},[],['$1']},{{5,'$1'},[],['$1']},{{0,'$1'},[],['$1']},{{32,'_'},[],[again]}].";
 
-/// Each object's key.
+/// The answer on each object is its key.
 const KEY: &str = "[{{'$1'},[],['$1']}].";
-/// Each object answers true.
+/// The answer on each object is true.
 const TRUE: &str = "[{'_',[],[true]}].";
 /// Keys of five classes.
 const FIVE: &str = "{1}. {2}. {3}. {4}. {5}.";
@@ -46,7 +46,7 @@ const FULL: &str =
     "{0}. {1}. {2}. {3}. {4}. {5}. {6}. {7}. {8}. {9}. {10}. {11}. {12}. {13}. {14}. {15}.
     {16}. {17}. {18}. {19}. {20}. {21}. {22}. {23}. {24}. {25}. {26}. {27}. {28}. {29}. {30}. {31}.";
 
-/// The session fixes one of two parts, both, and that of an ordered set, or none.
+/// Trials in which the session fixes one of two parts, both, or that of an ordered set, or none.
 const TRIALS: [Trial; 13] = [
     Trial {
         play: Play {
@@ -193,7 +193,7 @@ const TRIALS: [Trial; 13] = [
     },
 ];
 
-/// What a walk answers or counts, none where it is refused.
+/// Returns the answers or the number of a walk, or `None` if it runs out of memory.
 fn asked<A: Allocator + Copy, T: Turns<A>>(
     alloc: Global,
     heap: A,
@@ -232,7 +232,8 @@ fn asked<A: Allocator + Copy, T: Turns<A>>(
     }
 }
 
-/// Whether a call comes to what is wanted, with a look at the fixes of the session behind it; none where it is refused.
+/// Returns whether a call has the wanted result, or `None` if it runs out of memory. Records whether the session has
+/// the fixes that it had.
 fn comes_to<A: Allocator + Copy, T: Turns<A>>(
     alloc: Global,
     heap: A,
@@ -258,7 +259,7 @@ fn comes_to<A: Allocator + Copy, T: Turns<A>>(
     }
 }
 
-/// Whether what comes of a call is right, asked again where it is refused.
+/// Returns whether the result of a call is right; it is made again if memory runs out.
 fn is_asked<A: Allocator + Copy, T: Turns<A>>(
     alloc: Global,
     heap: A,
@@ -281,7 +282,8 @@ fn is_asked<A: Allocator + Copy, T: Turns<A>>(
     }
 }
 
-/// The same by its own query; none where there is no memory for it.
+/// Makes the trial's query, and returns whether the result of a call by it is right, or `None` if memory runs out for
+/// the query.
 pub(crate) fn is_asked_by<A: Allocator + Copy, T: Turns<A>>(
     alloc: Global,
     heap: A,
@@ -299,7 +301,7 @@ pub(crate) fn is_asked_by<A: Allocator + Copy, T: Turns<A>>(
     Some(is_right)
 }
 
-/// The first of the trials that doesn't hold.
+/// Returns the index of the first of the trials that is not right.
 fn wrong_trial(alloc: Global) -> Option<usize> {
     first_wrong(alloc, &TRIALS)
 }

@@ -1,6 +1,6 @@
-//! Selections by members with each request for memory refused in turn, alone and with all behind it, at hashed parts
-//! behind gates: no member keeps a fix, what a refused deletion says is gone is gone, and asked again a call gives what
-//! it gives undisturbed.
+//! Selections by members with each allocation failing in turn, alone and together with all later ones, at hashed parts
+//! with gates. No member keeps a fix, what a failed deletion says is deleted is deleted, and a second call has the
+//! result of one that does not fail.
 ghost use Rattle.std.specs.Prelude.{◌≡◌, All, map};
 ghost use Rattle.tables.specs.Sessions.{IsOpened};
 ghost use Rattle.parallel_select.specs.Workers.{AreOfOneTable};
@@ -29,10 +29,9 @@ use walks::Query;
 struct Set {
     parts: u8,
     objects: &'static [u8],
-    /// How many objects there are.
+    /// The number of objects.
     count: u64,
-    /// The answers in the order of the table: an integer is in the part of its remainder, and there in the class of its
-    /// quotient.
+    /// The answers in table order: an integer is in the part of its remainder, and there in the class of its quotient.
     answers: &'static str,
 }
 
@@ -50,25 +49,25 @@ const FOUR: Set = Set {
     count: 4,
     answers: "[{2},{4},{1},{3}]",
 };
-/// Each object's key, in a tuple that is made.
+/// The answer on each object is its key, in a tuple that is made.
 const KEY: &str = "[{{'$1'},[],[{{'$1'}}]}].";
-/// Each object answers true, by a tuple that is made of its key.
+/// The answer on each object is true, by comparing a tuple that is made of its key.
 const ALL: &str = "[{{'$1'},[{'=<',{{0}},{{'$1'}}}],[true]}].";
-/// The most requests for memory of a call and its table.
+/// The maximal number of allocations of a call and its table.
 const MOST_REQUESTS: u64 = 20_000;
 
-/// What came of a call.
+/// The result of a call.
 #[derive(Clone, Copy)]
 struct Came {
-    /// It was refused for want of memory.
+    /// It ran out of memory.
     is_refused: bool,
-    /// How many objects it says are gone.
+    /// The number of objects that it says it deleted.
     gone: u64,
-    /// It told of all objects, those among them that were gone before.
+    /// It reported all objects, including those that were deleted before.
     is_whole: bool,
 }
 
-/// What came of a call that was answered.
+/// Returns the result of a call that succeeded.
 fn answered(gone: u64, is_whole: bool) -> Option<Came> {
     Some(Came {
         is_refused: false,
@@ -77,7 +76,7 @@ fn answered(gone: u64, is_whole: bool) -> Option<Came> {
     })
 }
 
-/// That a call was refused for want of memory; none where it was for another reason.
+/// Returns the result of a call that ran out of memory, or `None` if it failed for another reason.
 fn refused(gone: u64, fault: SelectFault) -> Option<Came> {
     match fault {
         SelectFault::Memory => Some(Came {
@@ -89,14 +88,14 @@ fn refused(gone: u64, fault: SelectFault) -> Option<Came> {
     }
 }
 
-/// Whether these are the answers of a set.
+/// Returns whether these are the answers of a set.
 fn are_answers<A: Allocator>(alloc: Global, answers: Vec<Term<A>, A>, set: Set) -> bool {
     let text = listed(alloc, answers.as_slice());
     drop(answers);
     is_text(text, set.answers)
 }
 
-/// What comes of a call, so many objects being gone before.
+/// Returns the result of a call, if `before` objects were deleted before.
 fn called<R: Threads + Wait + Sync, A: Allocator + Copy + Send + Sync, T: Turns<A> + Send>(
     rt: &R,
     alloc: Global,
@@ -128,7 +127,7 @@ fn called<R: Threads + Wait + Sync, A: Allocator + Copy + Send + Sync, T: Turns<
     }
 }
 
-/// Whether no member fixes a part.
+/// Returns whether no member fixes a part.
 fn fix_nothing<A: Allocator, T: Turns<A>>(members: &[T]) -> bool
     requires { All T.is_ready members.now }
 {
@@ -140,7 +139,7 @@ fn fix_nothing<A: Allocator, T: Turns<A>>(members: &[T]) -> bool
     true
 }
 
-/// How many of these objects are gone, as the first member finds; none without a member.
+/// Returns how many of these objects are deleted, as the first member finds, or `None` if there is no member.
 fn gone<A: Allocator, T: Turns<A>>(
     alloc: Global,
     members: &mut [T],
@@ -160,8 +159,8 @@ fn gone<A: Allocator, T: Turns<A>>(
     if are_put { Some(gone) } else { None }
 }
 
-/// What comes of a call behind which as many objects are gone as it says, with those that were gone before, and no
-/// member fixes a part.
+/// Returns the result of a call. Records whether as many objects are deleted afterwards as it says, with those that
+/// were deleted before, and no member fixes a part.
 fn called_and_released<
     R: Threads + Wait + Sync,
     A: Allocator + Copy + Send + Sync,
@@ -191,7 +190,7 @@ fn called_and_released<
     Some(came)
 }
 
-/// Whether a call is right, once more where it is refused; none where it is refused for another reason.
+/// Returns whether a call is right; it is made again if memory runs out. Returns `None` if it fails for another reason.
 fn is_right_again<R: Threads + Wait + Sync, A: Allocator + Copy + Send + Sync, T: Turns<A> + Send>(
     rt: &R,
     alloc: Global,
@@ -222,7 +221,7 @@ fn is_right_again<R: Threads + Wait + Sync, A: Allocator + Copy + Send + Sync, T
     Some(watch.is_right() && second.is_whole)
 }
 
-/// The specification of a call.
+/// Returns the specification of a call.
 fn specification_of(call: Call) -> &'static str {
     match call {
         Call::Select => KEY,
@@ -231,7 +230,8 @@ fn specification_of(call: Call) -> &'static str {
     }
 }
 
-/// Whether a call is right at these objects, which were put in before; none where there is no memory for the query.
+/// Makes the query, and returns whether a call is right at these objects, which were inserted before. Returns `None` if
+/// memory runs out for the query.
 fn is_right_by<R: Threads + Wait + Sync, A: Allocator + Copy + Send + Sync, T: Turns<A> + Send>(
     rt: &R,
     alloc: Global,
@@ -254,7 +254,7 @@ fn is_right_by<R: Threads + Wait + Sync, A: Allocator + Copy + Send + Sync, T: T
     Some(is_right == Some(true))
 }
 
-/// The same by sessions of a table.
+/// Returns whether a call by sessions of a table is right, or `None` if memory runs out before it.
 fn is_right_in<
     R: Threads + Wait + Sync,
     A: Allocator + Copy + Send + Sync,
@@ -287,7 +287,8 @@ fn is_right_in<
     is_right
 }
 
-/// Whether a call by so many members is right; none where there is no memory for the table, its objects and the query.
+/// Returns whether a call by this number of members is right, or `None` if memory runs out for the table, its objects
+/// and the query.
 fn is_right_at<
     R: Threads + Wait + Sync,
     A: Allocator + Copy + Send + Sync,
@@ -320,7 +321,7 @@ fn is_right_at<
     is_right
 }
 
-/// Whether a call is right by an allocator that may refuse, and no block is left.
+/// Returns whether a call is right over an allocator that may fail, and no block is left allocated.
 fn is_right<R: Threads + Wait + Sync>(
     rt: &R,
     alloc: Global,
@@ -337,7 +338,7 @@ fn is_right<R: Threads + Wait + Sync>(
     }
 }
 
-/// Whether it is so with each request refused in turn.
+/// Returns whether `is_right` is true with each allocation failing in turn, alone and together with all later ones.
 fn holds<R: Threads + Wait + Sync>(
     rt: &R,
     alloc: Global,

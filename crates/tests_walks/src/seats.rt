@@ -5,7 +5,7 @@ use std::alloc::Allocator;
 use std::sync::atomic::{AtomicBool, Ordering};
 use tables::{Options, Turns};
 
-/// A session that raises a flag once it has made a turn.
+/// A session that sets a flag once it has made a turn.
 #[derive(Drop)]
 pub(crate) struct Seat<'f, T> {
     /// The session.

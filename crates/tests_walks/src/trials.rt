@@ -1,4 +1,4 @@
-//! What is tried at tables on one thread, with each request for memory refused in turn, alone and with all behind it.
+//! What is tried at tables on one thread, with each allocation failing in turn, alone and together with all later ones.
 ghost use Rattle.std.specs.Prelude.{◌≡◌};
 
 use crate::deletions::is_deleted_by;
@@ -14,23 +14,23 @@ use std::alloc::{Allocator, Global};
 use term_core::Term;
 use term_text::read_terms;
 
-/// The most requests of a trial and its table.
+/// The maximal number of allocations of a trial and its table.
 const MOST_REQUESTS: u64 = 20_000;
 
 /// What a session does.
 #[derive(Clone, Copy)]
 pub(crate) enum Act {
-    /// It asks by a whole walk.
+    /// It selects or counts by a whole walk.
     Ask(Call),
-    /// It deletes the objects that answer true. What refused deletions leave is this: how many objects they say are
-    /// gone, and of each object whether it is left or gone, as `+` or `-`.
+    /// It deletes the objects for which the answer is true. The text is the stages that failed deletions leave: how
+    /// many objects they say are deleted, and for each object `+` if it is left or `-` if it is deleted.
     Delete(&'static str),
-    /// It asks for pieces of at most so many answers, behind each of which another session puts objects in, and deletes
-    /// what is no tuple.
+    /// It walks in pieces of at most this many answers. After each piece another session inserts these objects, and
+    /// deletes the keys among them, which are no tuples.
     Walk(u64, &'static str),
 }
 
-/// What a session does at the table of a play, and what comes of it in the end.
+/// What a session does at the table of a play, and its result.
 #[derive(Clone, Copy)]
 pub(crate) struct Trial {
     pub(crate) play: Play,
@@ -39,7 +39,7 @@ pub(crate) struct Trial {
 }
 
 impl Trial {
-    /// What refused deletions leave.
+    /// Returns the stages that failed deletions leave.
     fn stages(self) -> &'static str {
         match self.act {
             Act::Delete(stages) => stages,
@@ -48,8 +48,8 @@ impl Trial {
     }
 }
 
-/// Whether what comes of a trial at these objects is right, which the session puts in before; none where there is no
-/// memory for them and the query. What refused deletions leave is put behind `stages`.
+/// Has the session insert these objects, and returns whether the result of a trial is right. Returns `None` if memory
+/// runs out for them and the query. Appends the stages that failed deletions leave to `stages`.
 fn is_right_over<A: Allocator + Copy, T: Numbered<A>>(
     alloc: Global,
     heap: A,
@@ -72,7 +72,8 @@ fn is_right_over<A: Allocator + Copy, T: Numbered<A>>(
     }
 }
 
-/// The same of its own objects.
+/// Has the session insert the objects of the trial, and returns whether its result is right. Returns `None` if memory
+/// runs out for them and the query.
 fn is_right_by<A: Allocator + Copy, T: Numbered<A>>(
     alloc: Global,
     heap: A,
@@ -92,7 +93,8 @@ fn is_right_by<A: Allocator + Copy, T: Numbered<A>>(
     is_right
 }
 
-/// The same, none where there is no memory for the table.
+/// Opens a table and inserts the objects of the trial, and returns whether its result is right. Returns `None` if
+/// memory runs out for the table, the objects and the query.
 fn is_right_at<P: Part<A> + Drop, A: Allocator + Copy>(
     alloc: Global,
     heap: A,
@@ -107,7 +109,7 @@ fn is_right_at<P: Part<A> + Drop, A: Allocator + Copy>(
     is_right
 }
 
-/// Whether what comes of a trial is right, by an allocator that may refuse, and no block is left.
+/// Returns whether the result of a trial is right over an allocator that may fail, and no block is left allocated.
 fn is_right(alloc: Global, heap: &Failing<Global>, trial: Trial, stages: &mut Vec<u8>) -> bool {
     let is_right = if trial.play.kind.is_ordered() {
         is_right_at::<OrderPart<&Failing<Global>>, &Failing<Global>>(
@@ -124,7 +126,8 @@ fn is_right(alloc: Global, heap: &Failing<Global>, trial: Trial, stages: &mut Ve
     }
 }
 
-/// Whether it is so with each request refused in turn, and refused deletions leave what they have to.
+/// Returns whether `is_right` is true with each allocation failing in turn, alone and together with all later ones, and
+/// failed deletions leave the stages that they have to.
 fn holds(alloc: Global, trial: Trial) -> bool {
     let mut stages = Vec::new(alloc);
     let alone = sweep(alloc, MOST_REQUESTS, |heap: &Failing<Global>| {
@@ -141,7 +144,7 @@ fn holds(alloc: Global, trial: Trial) -> bool {
     alone.is_complete() && onward.is_complete() && are_wanted
 }
 
-/// The first of these trials that doesn't hold.
+/// Returns the index of the first of these trials that is not right.
 pub(crate) fn first_wrong(alloc: Global, trials: &[Trial]) -> Option<usize> {
     for (place, trial) in trials.iter().enumerate() {
         if !holds(alloc, *trial) {

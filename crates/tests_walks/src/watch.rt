@@ -1,19 +1,19 @@
-//! What is seen of calls whose requests for memory are refused.
+//! What is checked of calls with failing allocations.
 use kit_alloc::{Failing, Plan};
 use std::alloc::Global;
 
-/// The calls of a run, over an allocator that refuses a request alone, or all from one on.
+/// The calls of a run, over an allocator of which one allocation fails alone, or all from one on.
 #[derive(Drop)]
 pub(crate) struct Watch<'h> {
     heap: &'h Failing<Global>,
-    /// A request had been refused when the last call ended.
+    /// An allocation had failed when the last call ended.
     was_refused: bool,
     /// All was right so far.
     is_right: bool,
 }
 
 impl<'h> Watch<'h> {
-    /// No call was made yet.
+    /// Returns a watch before any call.
     pub(crate) fn new(heap: &'h Failing<Global>) -> Self {
         Watch {
             heap,
@@ -22,17 +22,17 @@ impl<'h> Watch<'h> {
         }
     }
 
-    /// Whether a call that was refused may be refused again: where all requests behind one are.
+    /// Returns whether a call that failed may fail again, since all later allocations fail too.
     fn is_onward(&self) -> bool {
         matches!(self.heap.plan(), Plan::From(_))
     }
 
-    /// Keeps whether something is as it has to be.
+    /// Records whether something is as it has to be.
     pub(crate) fn sees(&mut self, is_so: bool) {
         self.is_right = self.is_right && is_so;
     }
 
-    /// A call ended. It has to be refused exactly where one of its requests was.
+    /// Records the end of a call, which has to fail exactly if one of its allocations did.
     pub(crate) fn ended(&mut self, is_refused: bool) {
         let before = self.was_refused;
         let now = self.heap.was_refused();
@@ -45,12 +45,13 @@ impl<'h> Watch<'h> {
         self.sees(is_due);
     }
 
-    /// Whether all was right so far.
+    /// Returns whether all was right so far.
     pub(crate) fn is_right(&self) -> bool {
         self.is_right
     }
 
-    /// Whether all was right of a run that ended at a call which was refused again.
+    /// Returns whether all was right in a run that ended at a call which failed again, as it may if all later
+    /// allocations fail.
     pub(crate) fn stops(&self) -> bool {
         self.is_right && self.is_onward()
     }

@@ -1,5 +1,6 @@
-//! Walks in pieces, between whose pieces another session writes, with each request for memory refused in turn, alone
-//! and with all behind it: asked again, on what was handed back, calls give the pieces of a walk that isn't disturbed.
+//! Walks in pieces, between whose pieces another session writes, with each allocation failing in turn, alone and
+//! together with all later ones. Calls that are made again with the values that they returned give the pieces of a walk
+//! that does not fail.
 ghost use Rattle.std.specs.Prelude.{◌≡◌};
 
 use crate::plays::{Numbered, Play, fixes_below, query_of};
@@ -14,29 +15,29 @@ use term_core::{Refused, Term};
 use term_text::read_terms;
 use walks::{Continuation, Query, Step, WalkFault, select_limit, select_more};
 
-/// The most pieces of a walk.
+/// The maximal number of pieces of a walk.
 const MOST_PIECES: usize = 100;
 
-/// Each object's key.
+/// The answer on each object is its key.
 const KEY: &str = "[{{'$1'},[],['$1']}].";
-/// Each object's key, in a tuple.
+/// The answer on each object is its key, in a tuple.
 const MADE: &str = "[{{'$1'},[],[{{'$1'}}]}].";
-/// Each object's second element.
+/// The answer on each object is its second element.
 const SECOND: &str = "[{{'_','$1'},[],['$1']}].";
-/// Keys of three classes, two of them in one, in two parts.
+/// Six keys of two parts: four of one class, and one of each of two more.
 const PAIRS: &str = "{0,a}. {1,b}. {16,c}. {32,d}. {3,e}. {48,f}.";
-/// Keys that are named, one of them twice, and one that isn't there.
+/// Keys that are named, one of them twice, and one that has no object.
 const NAMED: &str =
     "[{{32,'$1'},[],['$1']},{{5,'$1'},[],['$1']},{{0,'$1'},[],['$1']},{{32,'_'},[],[again]}].";
-/// Four keys in each of eight slots, which one more doubles.
+/// Four keys in each of eight slots; one more key doubles the slots.
 const FULL: &str =
     "{0}. {1}. {2}. {3}. {4}. {5}. {6}. {7}. {8}. {9}. {10}. {11}. {12}. {13}. {14}. {15}.
     {16}. {17}. {18}. {19}. {20}. {21}. {22}. {23}. {24}. {25}. {26}. {27}. {28}. {29}. {30}. {31}.";
 
-/// Walks of session 0, and what session 1 writes behind each piece. The parts are fixed in the first four, and in the
-/// others not.
+/// Walks of session 0, and what session 1 writes after each piece. The parts are fixed in the first four walks, and not
+/// in the others.
 const TRIALS: [Trial; 9] = [
-    // An object behind the walk is deleted, one is put where it has been, and one before it.
+    // An object that the walk has not reached is deleted, and one is inserted on each side of its position.
     Trial {
         play: Play {
             kind: TableKind::Set,
@@ -48,7 +49,7 @@ const TRIALS: [Trial; 9] = [
         act: Act::Walk(2, "3. {9}. {6}."),
         wanted: "[1,2]\n[4,5]\n[6]\n",
     },
-    // What was found with others of its class is answered, though it is deleted meanwhile.
+    // An answer that was found with others of its class is given, although its object is deleted meanwhile.
     Trial {
         play: Play {
             kind: TableKind::Set,
@@ -72,7 +73,7 @@ const TRIALS: [Trial; 9] = [
         act: Act::Walk(4, "{32}."),
         wanted: "[0,8,16,24]\n[1,9,17,25]\n[2,10,18,26]\n[3,11,19,27]\n[4,12,20,28]\n[5,13,21,29]\n[6,14,22,30]\n[7,15,23,31]\n",
     },
-    // They double, and a key that the walk comes to is deleted and put in again at its place.
+    // The slots double, and a key that the walk has yet to reach is deleted and inserted again at its place.
     Trial {
         play: Play {
             kind: TableKind::Bag,
@@ -128,7 +129,7 @@ const TRIALS: [Trial; 9] = [
         act: Act::Walk(1, "48. {48,f}."),
         wanted: "[a]\n[d]\n",
     },
-    // Keys before and behind the walk go, and one comes between them.
+    // Keys on both sides of the walk's position are deleted, and one is inserted between them.
     Trial {
         play: Play {
             kind: TableKind::OrderedSet,
@@ -142,7 +143,7 @@ const TRIALS: [Trial; 9] = [
     },
 ];
 
-/// What comes of a call that is asked for again; none where it is refused again, for want of memory, too.
+/// Returns the result of a call that is made again, or `None` if it fails again, which must be because memory ran out.
 fn again<A: Allocator, V: Drop>(
     watch: &mut Watch<'_>,
     came: Result<Step<A>, Refused<V, WalkFault>>,
@@ -154,7 +155,7 @@ fn again<A: Allocator, V: Drop>(
     came.ok()
 }
 
-/// A walk is begun, once more with what is handed back where it is refused for want of memory.
+/// Begins a walk; if memory runs out, tries again with the query that was returned. Returns `None` if it fails again.
 fn begun<A: Allocator + Copy, T: Turns<A>>(
     heap: A,
     watch: &mut Watch<'_>,
@@ -177,7 +178,8 @@ fn begun<A: Allocator + Copy, T: Turns<A>>(
     }
 }
 
-/// It is carried on in the same way.
+/// Goes on with a walk; if memory runs out, tries again with the walk that was returned. Returns `None` if it fails
+/// again.
 fn gone_on<A: Allocator + Copy, T: Turns<A>>(
     heap: A,
     watch: &mut Watch<'_>,
@@ -200,7 +202,7 @@ fn gone_on<A: Allocator + Copy, T: Turns<A>>(
     }
 }
 
-/// Puts an object in, once more with what is handed back where it is refused for want of memory.
+/// Inserts an object; if memory runs out, tries again with the object that was returned.
 fn put<A: Allocator + Copy, T: Turns<A>>(
     watch: &mut Watch<'_>,
     session: &mut T,
@@ -223,7 +225,7 @@ fn put<A: Allocator + Copy, T: Turns<A>>(
     }
 }
 
-/// What a session writes behind a piece.
+/// Has a session write what comes after a piece: it inserts tuples, and deletes other terms as keys.
 fn written<A: Allocator + Copy, T: Turns<A>>(
     watch: &mut Watch<'_>,
     session: &mut T,
@@ -243,7 +245,7 @@ fn written<A: Allocator + Copy, T: Turns<A>>(
     Some(())
 }
 
-/// Session 1 writes, and session 0 goes on; whether all was put in.
+/// Has session 1 write, goes on as session 0, and returns whether all was inserted.
 fn is_written<A: Allocator + Copy, T: Numbered<A>>(
     watch: &mut Watch<'_>,
     session: &mut T,
@@ -258,7 +260,7 @@ fn is_written<A: Allocator + Copy, T: Numbered<A>>(
     is_other && is_written && is_first
 }
 
-/// Puts the line of a piece at the end; false for want of memory.
+/// Appends the line of a piece; returns `false` if memory runs out.
 fn put_piece<A: Allocator>(alloc: Global, piece: &[Term<A>], lines: &mut Vec<u8>) -> bool {
     let Some(line) = listed(alloc, piece) else {
         return false;
@@ -268,8 +270,9 @@ fn put_piece<A: Allocator>(alloc: Global, piece: &[Term<A>], lines: &mut Vec<u8>
     is_put && lines.push(b'\n').is_ok()
 }
 
-/// Puts the line of a piece at the end, writes behind it, and carries the walk on; none where a call is refused again.
-fn next_behind<A: Allocator + Copy, T: Numbered<A>>(
+/// Appends the line of a piece, writes what comes after it, and goes on with the walk. Returns `None` if a call fails
+/// again.
+fn next_following<A: Allocator + Copy, T: Numbered<A>>(
     alloc: Global,
     heap: A,
     watch: &mut Watch<'_>,
@@ -293,7 +296,7 @@ fn next_behind<A: Allocator + Copy, T: Numbered<A>>(
     }
 }
 
-/// What comes behind a step; a walk that is at its end stays there.
+/// Returns the step after a step. A walk that is at its end stays there.
 fn next<A: Allocator + Copy, T: Numbered<A>>(
     alloc: Global,
     heap: A,
@@ -310,7 +313,7 @@ fn next<A: Allocator + Copy, T: Numbered<A>>(
     match step {
         Some(Step::Piece(piece, walk)) => {
             let objects = piece.as_slice();
-            let step = next_behind(
+            let step = next_following(
                 alloc, heap, watch, session, objects, walk, writes, fixed, lines,
             );
             drop(piece);
@@ -321,8 +324,8 @@ fn next<A: Allocator + Copy, T: Numbered<A>>(
     }
 }
 
-/// Whether a walk comes to its end, each piece put on a line, with what is written between them; else a call is refused
-/// again.
+/// Appends a line for each piece of a walk, and writes between the pieces. Returns whether the walk comes to its end;
+/// if it does not, a call has failed again.
 fn is_walked<A: Allocator + Copy, T: Numbered<A>>(
     alloc: Global,
     heap: A,
@@ -344,7 +347,7 @@ fn is_walked<A: Allocator + Copy, T: Numbered<A>>(
     is_over
 }
 
-/// Whether the pieces of a walk are right.
+/// Returns whether the pieces of a walk are right.
 fn are_pieces<A: Allocator + Copy, T: Numbered<A>>(
     alloc: Global,
     heap: A,
@@ -373,7 +376,8 @@ fn are_pieces<A: Allocator + Copy, T: Numbered<A>>(
     is_right
 }
 
-/// The same by its own query; none where there is no memory for it and what is written.
+/// Makes the trial's query, and returns whether the pieces of a walk by it are right. Returns `None` if memory runs out
+/// for the query and for what is written.
 pub(crate) fn is_walked_by<A: Allocator + Copy, T: Numbered<A>>(
     alloc: Global,
     heap: A,
@@ -402,7 +406,7 @@ pub(crate) fn is_walked_by<A: Allocator + Copy, T: Numbered<A>>(
     is_right
 }
 
-/// The first of the trials that doesn't hold.
+/// Returns the index of the first of the trials that is not right.
 fn wrong_trial(alloc: Global) -> Option<usize> {
     first_wrong(alloc, &TRIALS)
 }

@@ -24,7 +24,7 @@ one_if b = cond b 1 0
 count_more : (b : ℕ) (bs : List ℕ) → count_by begins_character (b ∷ bs) ≡ one_if (begins_character b) + count_by begins_character bs
 count_more b bs = sum_by-cons (λ x. cond (begins_character x) 1 0) b bs
 
--- one byte that begins a character, and none
+-- the first byte begins a character and none after it does
 first : (b : ℕ) (bs : List ℕ) → begins_character b ≡ true → count_by begins_character bs ≡ 0 → count_by begins_character (b ∷ bs) ≡ 1
 first b bs begins none = count_more b bs ∙ ap₂ (λ t n. one_if t + n) begins none
 
@@ -33,7 +33,7 @@ next bits bs none =
     let small : bits % 64 < 64 = omega arith in
     count_more (128 + bits % 64) bs ∙ ap₂ (λ t n. one_if t + n) (goes_on (128 + bits % 64) (omega arith) (omega arith)) none
 
--- so it is in each character
+-- one byte of each encoded character begins a character
 one_begins : (c : ℕ) → count_by begins_character (encode_utf8 c) ≡ 1
 unfolding encode_utf8
 one_begins c =

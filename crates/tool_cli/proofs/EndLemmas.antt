@@ -39,7 +39,7 @@ IsQuery request.Prompt = ⊥
 IsQuery (request.Scan o) = ⊥
 IsQuery r = Unit {0}
 
--- what a command's two clauses say of its outcome
+-- the outcome of a command that is neither a script, a shell nor a scan, by the two clauses of its contract
 pub has_outcome : (r : Request) (known old new : Option (List ℕ)) (outcome : Result (Unit {0}) ToolFault) → IsQuery r → OnOk outcome (OfTerms known (λ terms. Writes r terms old new))
     → IfErr outcome (λ f. Stops known old new f (λ terms. StopsOn r terms old new f)) → HasOutcome r known old new outcome
 has_outcome (request.Run form) known old new (Ok x) other ok stopped = ok
@@ -57,30 +57,30 @@ has_outcome request.Shell known old new outcome other ok stopped = absurd other
 has_outcome request.Prompt known old new outcome other ok stopped = absurd other
 has_outcome (request.Scan o) known old new outcome other ok stopped = absurd other
 
--- and those of a script
+-- the outcome of a script, by the two clauses of its contract
 pub has_replies : (known old new : Option (List ℕ)) (outcome : Result (Unit {0}) ToolFault) → OnOk outcome (OfScript known (λ terms. Writes request.Script terms old new))
     → IfErr outcome (λ f. StopsScript known old new f) → HasOutcome request.Script known old new outcome
 has_replies known old new (Ok x) ok stopped = ok
 has_replies known old new (Err f) ok stopped = stopped
 
--- and those of a shell
+-- the outcome of a shell, by the two clauses of its contract
 pub has_answers : (known old new : Option (List ℕ)) (outcome : Result (Unit {0}) ToolFault) → OnOk outcome (OfInput known (λ input. WritesAnswers input old new))
     → IfErr outcome (StopsShell known old new) → HasOutcome request.Shell known old new outcome
 has_answers known old new (Ok x) ok stopped = ok
 has_answers known old new (Err f) ok stopped = stopped
 
--- of one for a person there is one
+-- the outcome of a shell for a person, by the one clause of its contract
 pub has_prompted : (r : Request) (known old new : Option (List ℕ)) (outcome : Result (Unit {0}) ToolFault) → r ≡ request.Prompt → IfErr outcome IsStreamFault → HasOutcome r known old new outcome
 has_prompted r known old new (Ok x) is stopped = rw is tt
 has_prompted r known old new (Err f) is stopped = rw is stopped
 
--- and those of a scan
+-- the outcome of a scan, by the two clauses of its contract
 pub has_scanned : (o : ScanOptions) (known old new : Option (List ℕ)) (outcome : Result (Unit {0}) ToolFault) → OnOk outcome (AreAllowed o × OfTerms known (λ terms. Writes (request.Scan o) terms old new))
     → IfErr outcome (λ f. StopsScan o known old new f) → HasOutcome (request.Scan o) known old new outcome
 has_scanned o known old new (Ok x) ok stopped = ok
 has_scanned o known old new (Err f) ok stopped = stopped
 
--- a command that was asked for ran
+-- the command that the words request ran
 pub ends_command : (a : Asked) (i : Invocation) (known out out' err err' : Option (List ℕ)) (failed : Type 0) (status : ℕ) → Reads a (Ok i)
     → EndsInvocation i known out out' err err' failed status → EndsAsked a known out out' err err' failed status
 ends_command (command q) i known out out' err err' failed status is h = inl (subst (λ s. EndsInvocation s known out out' err err' failed status) is h)
@@ -89,9 +89,9 @@ ends_command version i known out out' err err' failed status is h = absurd is
 ends_command topic i known out out' err err' failed status is h = absurd is
 ends_command mistake i known out out' err err' failed status is h = absurd is
 
--- ---- a refusal that is explained
+-- ---- a fault that is explained
 
--- what was told is the line, and behind it what the refusal means, or nothing
+-- what is written to standard error is the error line, followed by what the fault means, or by nothing
 pub ends_told : (input : List ℕ) (f : ToolFault) (line told : List ℕ) (meant : Result (Unit {0}) AllocError) (err err' : Option (List ℕ)) (failed : Type 0) (status : ℕ) → status ≡ status_of f → line ≡ line_of f
     → OnOk meant ((m : List ℕ) × Explains input f m × (told ≡ line ++ m)) → OnErr meant (told ≡ line) → Tells err err' failed told → EndsTold input f err err' failed status
 ends_told input f line told (Ok x) err err' failed status ended is meant none tells =
@@ -152,7 +152,7 @@ shell_given known old new input (fault.File f) given h = absurd h
 shell_given known old new input (fault.Code f b) given h = absurd h
 shell_given known old new input fault.TooSmall given h = absurd h
 
--- nothing of an input is answered
+-- nothing of an input was processed
 nothing_first : (input : List ℕ) (old : Option (List ℕ)) → WritesFirst (Some input) old old
 nothing_first input old = record {
   front = [];
@@ -199,14 +199,15 @@ ends_explained r known out out' err err' failed status input outcome given writt
   ended = ended;
 }
 
--- the same, where what the command read and what was told of are slices of that input
+-- a command that ran over an input that was read whole, where the unread part and the part shown in the explanation are
+-- that whole input
 pub ends_over : (r : Request) (known out out' err err' : Option (List ℕ)) (failed : Type 0) (status : ℕ) (input unread shown : List ℕ) (outcome : Result (Unit {0}) ToolFault) → IsGiven known input → unread ≡ input
     → HasOutcome r (Some unread) out out' outcome → shown ≡ input → EndsTelling shown outcome err err' failed status → EndsExplained r known out out' err err' failed status
 ends_over r known out out' err err' failed status input unread shown outcome given whole written seen ended =
     ends_explained r known out out' err err' failed status input outcome given (subst (λ b. HasOutcome r (Some b) out out' outcome) whole written)
     (subst (λ b. EndsTelling b outcome err err' failed status) seen ended)
 
--- an input that could not be read: any, where none is known
+-- an input that could not be read: any, if none is known
 abbrev unread_input : Option (List ℕ) → List ℕ
 unread_input None = []
 unread_input (Some bytes) = bytes
@@ -215,7 +216,7 @@ unread_given : (known : Option (List ℕ)) → IsGiven known (unread_input known
 unread_given None = tt
 unread_given (Some bytes) = refl
 
--- no byte of it is at fault
+-- no byte of the input is at fault if it could not be read
 told_of_any : (f : ToolFault) (input : List ℕ) (err err' : Option (List ℕ)) (failed : Type 0) (status : ℕ) → IsReadFault f → EndsTelling [] (Err f) err err' failed status → EndsTelling input (Err f) err err' failed status
 told_of_any fault.Memory input err err' failed status is h = h
 told_of_any fault.ReadFailed input err err' failed status is h = h
@@ -228,7 +229,7 @@ told_of_any fault.TooSmall input err err' failed status is h = absurd is
 told_of_any fault.BadOptions input err err' failed status is h = absurd is
 told_of_any fault.WriteFailed input err err' failed status is h = absurd is
 
--- nor is one where a shell ends early
+-- no byte of the input is at fault if a shell ends early
 told_of_shell : (f : ToolFault) (known out out' : Option (List ℕ)) (input : List ℕ) (err err' : Option (List ℕ)) (failed : Type 0) (status : ℕ) → StopsShell known out out' f
     → EndsTelling [] (Err f) err err' failed status → EndsTelling input (Err f) err err' failed status
 told_of_shell fault.Memory known out out' input err err' failed status is h = h
@@ -242,7 +243,7 @@ told_of_shell (fault.Code f b) known out out' input err err' failed status is h 
 told_of_shell fault.TooSmall known out out' input err err' failed status is h = absurd is
 told_of_shell fault.BadOptions known out out' input err err' failed status is h = absurd is
 
--- nothing is written then
+-- nothing is written if the input could not be read
 unread_outcome : (r : Request) (f : ToolFault) (input : List ℕ) (old : Option (List ℕ)) → IsReadFault f → HasOutcome r (Some input) old old (Err f)
 unread_outcome request.Script fault.Memory input old is = inl ((input, refl, tt), kept old)
 unread_outcome request.Script fault.ReadFailed input old is = inl ((input, refl, tt), kept old)
@@ -277,7 +278,7 @@ ends_unread r f known out err err' failed status is h =
     ends_explained r known out out err err' failed status (unread_input known) (Err f) (unread_given known) (unread_outcome r f (unread_input known) out is)
     (told_of_any f (unread_input known) err err' failed status is h)
 
--- ---- a shell that is explained, which reads its input as it comes
+-- ---- a shell with explanations, which reads its input as it arrives
 
 begun_first : (out out' : Option (List ℕ)) (h : WritesFirst None out out') → WritesFirst (Some (h.front ++ h.rest)) out out'
 begun_first out out' h = record {
@@ -292,7 +293,7 @@ begun_first out out' h = record {
   gained = h.gained;
 }
 
--- what a shell that ends early is known to have read
+-- the input of which a shell that ended early is known to have read the beginning
 read_first : (out out' : Option (List ℕ)) (f : ToolFault) → StopsShell None out out' f → (input : List ℕ) × StopsShell (Some input) out out' f
 read_first out out' fault.Memory h = (h.front ++ h.rest, begun_first out out' h)
 read_first out out' fault.ReadFailed h = (h.front ++ h.rest, begun_first out out' h)
@@ -317,7 +318,7 @@ ends_shell None out out' err err' failed status (Err f) written ended =
     let read = read_first out out' f written in
     ends_explained request.Shell None out out' err err' failed status read.0 (Err f) tt read.1 (told_of_shell f None out out' read.0 err err' failed status written ended)
 
--- one for a person is told of in the same way
+-- no byte of the input is at fault if a shell for a person ends early
 told_of_prompt : (f : ToolFault) (input : List ℕ) (err err' : Option (List ℕ)) (failed : Type 0) (status : ℕ) → IsStreamFault f
     → EndsTelling [] (Err f) err err' failed status → EndsTelling input (Err f) err err' failed status
 told_of_prompt fault.Memory input err err' failed status is h = h
@@ -352,7 +353,7 @@ is_shell_ended (request.Explain keypos) known out out' err err' failed status ou
 
 -- ---- how the program ends where no command runs
 
--- by the kind of error
+-- how the program ends, by the kind of `clap`'s error
 pub record IsEndBy (k : ErrorKind) (out out' err err' : Option (List ℕ)) (failed : Type 0) (status : ℕ) : Type 0 where
   pub help : k ≡ kind.DisplayHelp → EndsHelp out out' err err' failed status
   pub version : k ≡ kind.DisplayVersion → EndsVersion out out' err err' failed status

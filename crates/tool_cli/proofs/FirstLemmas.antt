@@ -1,4 +1,4 @@
--- What `clap` makes of the first word behind the program's name, where that is neither a command nor `help`.
+-- What `clap` makes of the first word after the program's name, if it is neither a command nor `help`.
 use Rattle.std.proofs.Common.{◌≡◌, ◌∙◌, ℕ, Bool, true, false, true≢false, ◌==◌, List, [], ◌∷◌, ◌++◌}
 use Rattle.std.proofs.Common.{Option, Some, None, option_map, refl, sym, subst, ap, codes, take}
 use Rattle.std.proofs.lemmas.Slice.Eq.{bytes_eq-Decides}
@@ -41,17 +41,17 @@ module _ (kinds : ValueParser) where
   abbrev pub start : Walk
   start = walk_from nothing_held
 
-  -- the fault of a word, by the command that it names
+  -- the error for a word, given the command that it names
   abbrev turn_at : Text → Option Text → Kinds
   turn_at word met =
       or_else (other_fault top met word nothing_held)
       (step_fault top 1 (subcommand_or_other top.rules met idle 1 word nothing_held).0 (subcommand_or_other top.rules met idle 1 word nothing_held).1)
 
-  -- the word asks by a flag for what it is refused for
+  -- the word is rejected with the kind of error that its flag requests
   abbrev IsRefused : Text → Type 0
   IsRefused word = Refuses (asked_first word) (turn_at word None)
 
-  -- its fault by what `clap` sees of it: that it is `--`, or a long flag
+  -- the error for a word, given what `clap` sees of it: whether it is `--`, and the long flag
   abbrev step_met : Text → Bool → Option (Text × Option Text) → Held × Step
   step_met word is_end flag =
       if is_end then (nothing_held, trailing 1) else long_or_other top.rules idle word flag nothing_held
@@ -64,11 +64,11 @@ module _ (kinds : ValueParser) where
   turn_is : (word : Text) → turn_at word None ≡ turn_by word (bytes_eq word (codes "--")) (long_of word)
   turn_is word = refl
 
-  -- what a word asks for that is a flag for help, for the version, or neither
+  -- what a word requests that is a flag for help, for the version, or neither
   abbrev asked_as : (helps shows : Bool) → Asked
   asked_as helps shows = if shows then version else (if helps then help else mistake)
 
-  -- what is seen of a word that isn't `--`
+  -- what is seen of a word that is not `--`
   record IsSeen (word : Text) (flag : Option (Text × Option Text)) (helps shows : Bool) : Type 0 where
     other : bytes_eq word (codes "--") ≡ false
     long : long_of word ≡ flag
@@ -81,7 +81,7 @@ module _ (kinds : ValueParser) where
   stray : (word : Text) → short_of word ≡ None → Refuses mistake (turn_by word false None)
   stray word is = rw is refl
 
-  -- words that are no flags
+  -- words that are not flags
   empty : IsRefused []
   empty =
       refused [] None false false (record { other = refl; long = refl; help = refl; version = refl }) (stray [] refl)
@@ -132,7 +132,7 @@ module _ (kinds : ValueParser) where
           let no_version : bytes_eq (codes "-version") (y ∷ ys) ≡ false = other_text (y ∷ ys) (codes "-version") (no_name (codes "version")) in
           record { other = rw dash refl; long = rw dash refl; help = rw (no_help, first) h; version = rw (no_version, first) v }
 
-      -- the letter h is no V
+      -- the letter h is not V
       h_alone : (c : ℕ) → 104 == c ≡ true → 86 == c ≡ false
       h_alone c h = rw (← eqb-true 104 c h) refl
 
@@ -173,7 +173,7 @@ module _ (kinds : ValueParser) where
   unfolding chars
   no_version z zs other = rw other refl
 
-  -- the text behind two hyphens is neither word alone
+  -- the text after two hyphens is neither `help` nor `version`
   record IsNeither (text : Text) : Type 0 where
     help : bytes_eq (codes "help") text ≡ false
     version : bytes_eq (codes "version") text ≡ false
@@ -203,7 +203,7 @@ module _ (kinds : ValueParser) where
       value : Option Text
       value = if has_byte 61 (z ∷ zs) then Some given else None
 
-      -- a name that is one of the two has a value, since what stands there isn't the name alone
+      -- a name that is `help` or `version` has a value, since the text is not the name alone
       with_value : (which : Text) → bytes_eq which (z ∷ zs) ≡ false → IsNeither (z ∷ zs) → which ≡ flag → ((v : Text) → Refuses mistake (turn_by word false (Some (which, Some v)))) → IsRefused word
       with_value which alone other is refusal =
           by_test (has_byte 61 (z ∷ zs)) (IsRefused word)
@@ -235,7 +235,7 @@ module _ (kinds : ValueParser) where
           by_test (y == 45) (IsRefused (45 ∷ y ∷ ys)) (λ is. rw (eqb-true y 45 is) (behind_two ys (rw (eqb-true y 45 is) at other)))
           (λ is. short y ys is)
 
-  -- where it names no command
+  -- a first word that names no command
   pub no_command_refused : (word : Text) → command_named word ≡ None → bytes_eq (codes "help") word ≡ false → bytes_eq (codes "--") word ≡ false
       → Refuses (asked_first word) (turn_fault top top_names start word)
   no_command_refused word none no_topic other =

@@ -1,4 +1,4 @@
--- Words behind a command that are no option of it: `clap` takes each for a flag, or for none.
+-- Words after a command that are no option of it: `clap` takes each for a flag, or for none.
 use Rattle.std.proofs.Common.{◌≡◌, ◌∙◌, ℕ, Bool, true, false, true≢false, ◌==◌, List, [], ◌∷◌}
 use Rattle.std.proofs.Common.{Option, Some, None, inl, inr, ◌⊎◌, refl, sym, subst, ap, codes, take}
 use Rattle.std.proofs.lemmas.Bool.{eqb-true}
@@ -17,13 +17,13 @@ use Rattle.tool_cli.proofs.KindLemmas.{by_test, same_text, other_text, no_equals
 use Rattle.tool_cli.proofs.RuleLemmas.{rules, no_rule, by_letter, help_by_long, sound}
 use Rattle.tool_cli.proofs.RowLemmas.{held as held_with}
 
--- What is told of a flag that is no option's, where what is pending has some fault: that first, and then help; or a
--- mistake in any case.
+-- The errors for a flag that is no option, given the errors of the pending option: for a help flag those first and then
+-- help, else a mistake in any case.
 abbrev pub FlagFault : Bool → Kinds → Kinds → Type 0
 FlagFault true pending ks = (more : Kinds) × (ks ≡ or_else (or_else pending (error.DisplayHelp ∷ [])) more)
 FlagFault false pending ks = are_mistakes ks ≡ true
 
--- a word that isn't a flag
+-- a word that is not a flag
 pub record IsPlainWord (which : Optioned) (word : Text) : Type 0 where
   pub other : bytes_eq word (codes "--") ≡ false
   pub long : long_of word ≡ None
@@ -35,11 +35,11 @@ module _ (kinds : ValueParser) (good : IsKindParser kinds) (which : Optioned) wh
   abbrev held : List Row → Option (Text × List Text) → Held
   held = held_with kinds good
 
-  -- the fault of what is pending
+  -- the errors of the pending option
   abbrev pub fault_held : List Row → Option (Text × List Text) → Kinds
   fault_held rows pending = settle_fault (rules kinds which) false (held rows pending)
 
-  -- and of a word that begins with a hyphen
+  -- the errors for a word that begins with a hyphen
   abbrev pub fault_by : Held → Text → Option (Text × Option Text) → Kinds
   fault_by h word flag = flag_word_fault (rules kinds which) false flag word h
 
@@ -64,7 +64,7 @@ module _ (kinds : ValueParser) (good : IsKindParser kinds) (which : Optioned) wh
   abbrev pub long_by : Held → Option Text → Option Rule → Kinds
   long_by h v found = long_fault (rules kinds which) false found v h
 
-  -- `--help`, and with a value, which it doesn't take
+  -- `--help`, alone and with a value, which it does not take
   help_flag : (rows : List Row) (pending : Option (Text × List Text)) → FlagFault true (fault_held rows pending) (fault_by (held rows pending) (codes "--help") (Some (codes "help", None)))
   help_flag rows pending =
       ([], ap (long_by (held rows pending) None) (help_by_long kinds (options_of which) (sound which).no_help) ∙ sym (no_more _))

@@ -1,4 +1,4 @@
--- What is known of texts and tests, and of kinds of errors.
+-- Facts about texts and tests, and about kinds of errors.
 use Rattle.std.proofs.Common.{◌≡◌, ◌∙◌, ℕ, Bool, true, false, true≢false, ◌==◌, List, [], ◌∷◌, refl, sym, ap, take, ◌+◌, one-add}
 use Rattle.std.proofs.lemmas.Slice.Eq.{bytes_eq-Decides}
 use Rattle.std.specs.List.{list_all, before_first}
@@ -49,19 +49,19 @@ is_mistake error.ValueValidation = true
 is_mistake error.ArgumentConflict = true
 is_mistake _ = false
 
--- some kinds, all of them of words that are not understood
+-- there are errors, and all are of kinds for words that are not understood
 abbrev pub are_mistakes : Kinds → Bool
 are_mistakes [] = false
 are_mistakes (k ∷ ks) = list_all is_mistake (k ∷ ks)
 
--- what one flag is refused for, which enters no command
+-- the errors for a single flag, where no command is entered
 abbrev pub Refuses : Asked → Kinds → Type 0
 Refuses help ks = ks ≡ error.DisplayHelp ∷ []
 Refuses version ks = ks ≡ error.DisplayVersion ∷ []
 Refuses mistake ks = are_mistakes ks ≡ true
 Refuses a ks = ⊥
 
--- a word that is refused is refused whatever follows
+-- a word that is rejected is rejected whatever follows
 pub still_refused : (a : Asked) (ks more : Kinds) → Refuses a ks → Refuses a (or_else ks more)
 still_refused help ks more h = rw h refl
 still_refused version ks more h = rw h refl

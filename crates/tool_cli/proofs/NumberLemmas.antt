@@ -1,4 +1,4 @@
--- The number that is read of an option's text.
+-- The number that is read from an option's text.
 use Rattle.std.proofs.Common.{◌≡◌, ◌∙◌, ◌<◌, ◌≤◌, ◌^◌, ap, ℕ, Bool, true, false, List, [], ◌∷◌, Option, Some, None, Result, Ok, Err, refl, sym, subst, arith, ◌==◌, cond, drop}
 use Rattle.std.specs.Prelude.{pos, unwrap_or}
 use Rattle.std.specs.Str.Parse.{ParsesUnsigned, digits_value, starts_with_minus, without_leading_plus}
@@ -22,7 +22,7 @@ without_minus_is (x ∷ xs) = go (x == 45)
     go true = refl
     go false = refl
 
--- a text that passed a range from 1 on has no minus sign, and is read as its number
+-- a text in a range that begins at 1 has no minus sign, and is read as its number
 pub number_read : (E : Type 0) (G : List ℕ → Result ℕ E → Type 0) (k high : ℕ) (t : List ℕ) (r : Option ℕ)
     → ReadsOne G (without_minus t) r → ((u : List ℕ) (x : Result ℕ E) → G u x → ParsesUnsigned k 10 u x) → high < 2 ^ k
     → IsSignedIn (pos 1) (pos high) t
@@ -46,7 +46,7 @@ number_read E G k high t r read only fits passed =
         let numeral = rw minus at passed.0 in
         absurd (only t (Err h.0) (rw minus at h.1) (numeral, omega (arith, ints)))
 
--- and so is that of an option that has a row
+-- the number that is read from the row of an option
 pub option_read : (E : Type 0) (G : List ℕ → Result ℕ E → Type 0) (f : Found) (name : List ℕ) (most n : ℕ) (r : Option ℕ)
     → ((u : List ℕ) (x : Result ℕ E) → G u x → ParsesUnsigned 16 10 u x) → ((t : List ℕ) → one_text f name ≡ Some t → ReadsOne G t r)
     → most < 65536 → IsReadOf name most n (rows_of f) → (r ≡ Some n) × (n ≤ most)

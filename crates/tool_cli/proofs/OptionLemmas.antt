@@ -1,4 +1,4 @@
--- What `clap` makes of the words behind a command, one after the other.
+-- What `clap` makes of the words after a command, one after the other.
 use Rattle.std.proofs.Common.{◌≡◌, ◌∙◌, ℕ, Bool, true, false, true≢false, ◌&&◌, List, [], ◌∷◌, ◌++◌}
 use Rattle.std.proofs.Common.{Option, Some, None, inl, inr, ◌⊎◌, refl, sym, subst, ap, codes, fold, not}
 use Rattle.std.proofs.lemmas.Bool.{and_parts}
@@ -21,7 +21,7 @@ use Rattle.tool_cli.proofs.RowLemmas as row
 use Rattle.tool_cli.proofs.FlagLemmas.{FlagFault, IsPlainWord}
 use Rattle.tool_cli.proofs.FlagLemmas as flags
 
--- what words come to that ask for this
+-- the errors and rows that words lead to, given what they request
 abbrev pub Comes : Optioned → Asked → Kinds → List Row → Type 0
 Comes which (command i) ks rows = (ks ≡ []) × IsReadAs which i rows
 Comes which help ks rows = ks ≡ error.DisplayHelp ∷ []
@@ -29,7 +29,7 @@ Comes which topic ks rows = ⊥
 Comes which version ks rows = ⊥
 Comes which mistake ks rows = are_mistakes ks ≡ true
 
--- Of the parser of kinds it is known what it takes and how that is read; and so it is with each command.
+-- Parameters: the parser of kinds, with what it accepts and how that is read, and the command.
 module _ (kinds : ValueParser) (good : IsKindParser kinds) (which : Optioned) where
   abbrev pub level : Shape
   level = level_with kinds which
@@ -46,20 +46,20 @@ module _ (kinds : ValueParser) (good : IsKindParser kinds) (which : Optioned) wh
   abbrev rows_of : Given → List Row
   rows_of = row.rows_of kinds good which
 
-  -- the fault of what is pending, and the rows with it
+  -- the errors of the pending option, with the rows so far
   abbrev fault_held : List Row → Option (Text × List Text) → Kinds
   fault_held = flags.fault_held kinds good which
 
   abbrev rows_held : List Row → Option (Text × List Text) → List Row
   rows_held rows pending = (settled rules (held rows pending)).rows
 
-  -- all that was given is held, and is right
+  -- all options that were given are held, without an error
   record Holds (given : Given) (rows : List Row) (pending : Option (Text × List Text)) : Type 0 where
     fault : fault_held rows pending ≡ []
     now : rows_held rows pending ≡ rows_of given
     fit : row.AreFit kinds good which given
 
-  -- ---- the rule of an option, and words that have none
+  -- ---- the rule of an option, and words that have no rule
 
   record IsRule (name : Text) (takes : Takes) : Type 0 where
     by_long : arg_by_long rules name ≡ Some (rule name takes)
@@ -107,7 +107,7 @@ module _ (kinds : ValueParser) (good : IsKindParser kinds) (which : Optioned) wh
   unfolding walked
   moved_waiting h name word = refl
 
-  -- a long flag, by its rule
+  -- the errors for a long flag, given its rule
   abbrev long_turn : Held → Text → Option Text → Option Rule → Kinds
   long_turn h word v found =
       or_else (long_fault rules false found v h)
@@ -159,7 +159,7 @@ module _ (kinds : ValueParser) (good : IsKindParser kinds) (which : Optioned) wh
   alone_moved rows pending word name kind valued = refl
   alone_moved rows pending word name nothing valued = absurd valued
 
-  -- `--name` of a flag, and with a value, which it doesn't take
+  -- `--name` of a flag, alone and with a value, which it does not take
   flag_turn : (rows : List Row) (pending : Option (Text × List Text)) (word name : Text) → fault_held rows pending ≡ []
       → long_turn (held rows pending) word None (Some (rule name nothing)) ≡ use_fault false (rule name nothing) [] (rows_held rows pending)
   flag_turn rows pending word name fault =
@@ -179,7 +179,7 @@ module _ (kinds : ValueParser) (good : IsKindParser kinds) (which : Optioned) wh
   flags_dashes : (word : Text) → bytes_eq (codes "--") word ≡ true → is_flag word ≡ true
   flags_dashes word e = subst (λ w. is_flag w ≡ true) (same_text (codes "--") word e) dashes_flag
 
-  -- ---- a fault that is pending
+  -- ---- a pending option that has an error
 
   record IsBad (rows : List Row) (pending : Option (Text × List Text)) : Type 0 where
     mistakes : are_mistakes (fault_held rows pending) ≡ true
@@ -188,13 +188,13 @@ module _ (kinds : ValueParser) (good : IsKindParser kinds) (which : Optioned) wh
   mistakes_first [] b h = absurd (true≢false (sym h))
   mistakes_first (k ∷ ks) b h = h
 
-  -- a flag that isn't an option's is then a mistake too
+  -- after such an option a flag that is no option is a mistake too
   bad_flag : (helps : Bool) (pending ks : Kinds) → are_mistakes pending ≡ true → FlagFault helps pending ks → are_mistakes ks ≡ true
   bad_flag true pending ks bad fault =
       rw fault.1 (mistakes_first (or_else pending (error.DisplayHelp ∷ [])) fault.0 (mistakes_first pending (error.DisplayHelp ∷ []) bad))
   bad_flag false pending ks bad fault = fault
 
-  -- and so is an option
+  -- after such an option another option is a mistake too
   bad_option : (rows : List Row) (pending : Option (Text × List Text)) (word name : Text) (v : Option Text) (takes : Takes) → IsBad rows pending
       → are_mistakes (long_fault rules false (Some (rule name takes)) v (held rows pending)) ≡ true
   bad_option rows pending word name None (number most) bad = bad.mistakes
@@ -204,7 +204,7 @@ module _ (kinds : ValueParser) (good : IsKindParser kinds) (which : Optioned) wh
   bad_option rows pending word name (Some value) kind bad = mistakes_first (fault_held rows pending) _ bad.mistakes
   bad_option rows pending word name (Some value) nothing bad = refl
 
-  -- ---- all that follows
+  -- ---- all words that follow
 
   abbrev end_fault : Held → Kinds
   end_fault h =
@@ -230,7 +230,7 @@ module _ (kinds : ValueParser) (good : IsKindParser kinds) (which : Optioned) wh
       ∙ ap (λ ks. or_else ks (check_fault level (finished rules (held rows pending)) false)) (row.no_default_fault kinds good which (rows_held rows pending))
       ∙ no_check (finished rules (held rows pending))
 
-  -- ---- words that are refused from here on
+  -- ---- words that are rejected from here on
 
   abbrev trailing_at : Held → Waiting → Walk
   trailing_at h waiting = record (walk_at h waiting) { is_trailing = true }
@@ -246,7 +246,7 @@ module _ (kinds : ValueParser) (good : IsKindParser kinds) (which : Optioned) wh
   unfolding walked
   dashes_waiting h name = (refl, refl)
 
-  -- a word without a fault of its own, and then the rest
+  -- the errors for a word, and then those for the rest
   abbrev step_on : Kinds → List Text → Walk → Kinds
   step_on turn rest w = or_else turn (rest_fault w rest)
 
@@ -256,7 +256,7 @@ module _ (kinds : ValueParser) (good : IsKindParser kinds) (which : Optioned) wh
   turn_refused : (w : Walk) (word : Text) (rest : List Text) → are_mistakes (turn_fault level [] w word) ≡ true → are_mistakes (rest_fault w (word ∷ rest)) ≡ true
   turn_refused w word rest h = mistakes_first (turn_fault level [] w word) (rest_fault (walked rules [] w word) rest) h
 
-  -- behind `--` the end alone is not refused
+  -- after `--` only the end is not rejected
   bad_behind_dashes : (rows : List Row) (pending : Option (Text × List Text)) (waiting : Waiting) → IsBad rows pending → (rest : List Text) → are_mistakes (rest_fault (trailing_at (held rows pending) waiting) rest) ≡ true
   bad_behind_dashes rows pending waiting bad [] = mistakes_first (fault_held rows pending) _ bad.mistakes
   bad_behind_dashes rows pending waiting bad (word ∷ rest) = turn_refused (trailing_at (held rows pending) waiting) word rest (ap are_mistakes (stray (held rows pending) waiting word))
@@ -264,7 +264,7 @@ module _ (kinds : ValueParser) (good : IsKindParser kinds) (which : Optioned) wh
   strays_behind_dashes : (h : Held) (waiting : Waiting) (word : Text) (rest : List Text) → are_mistakes (rest_fault (trailing_at h waiting) (word ∷ rest)) ≡ true
   strays_behind_dashes h waiting word rest = turn_refused (trailing_at h waiting) word rest (ap are_mistakes (stray h waiting word))
 
-  -- a word that is no flag
+  -- a word that is not a flag
   plain_idle : (h : Held) (word : Text) → h.skip ≡ 0 → IsPlainWord which word → turn_fault level [] (walk_at h idle) word ≡ error.UnknownArgument ∷ []
   unfolding flags_fault bundle_met
   plain_idle h word skip plain =
@@ -283,7 +283,7 @@ module _ (kinds : ValueParser) (good : IsKindParser kinds) (which : Optioned) wh
       by_short (inl none) = rw none refl
       by_short (inr (y, ys, is, first)) = rw (is, skip, first) refl
 
-  -- it is the value of the option before it
+  -- the walk after a word that is the value of the option before it
   abbrev pushed_by : List Row → Text → Text → Option Rule → Walk
   pushed_by rows name word found =
       walk_at (option_word found name word (held rows (Some (name, [])))).0 (option_word found name word (held rows (Some (name, [])))).1
@@ -307,7 +307,7 @@ module _ (kinds : ValueParser) (good : IsKindParser kinds) (which : Optioned) wh
       counted kind valued = rw (text_itself name) refl
       counted nothing valued = absurd valued
 
-  -- a flag, an option's or another, where a fault is pending
+  -- a flag, of an option or another, while a pending option has an error
   bad_flag_fault : (rows : List Row) (pending : Option (Text × List Text)) (word : Text) → IsBad rows pending → (option_in which word ≡ None → flags.HasFlagFault kinds good which rows pending word)
       → are_mistakes (flags.flag_fault kinds good which (held rows pending) word) ≡ true
   bad_flag_fault rows pending word bad other = by_long (long_of word) refl
@@ -371,7 +371,7 @@ module _ (kinds : ValueParser) (good : IsKindParser kinds) (which : Optioned) wh
           ∙ mistakes_first (flags.flag_fault kinds good which h word) _ (bad_flag_fault rows (Some (name, [])) word bad is.1)
       by_word e (inr plain) = absurd (true≢false (sym flag ∙ plain.0))
 
-  -- ---- the words behind the command
+  -- ---- the words after the command
 
   abbrev ComesFrom : Asked → Walk → List Text → Type 0
   ComesFrom a w words = Comes which a (rest_fault w words) (rest_rows w words)
@@ -393,7 +393,7 @@ module _ (kinds : ValueParser) (good : IsKindParser kinds) (which : Optioned) wh
   abbrev own_step : Held → Text → Kinds
   own_step h word = step_fault level 1 (step_met h idle word false (long_of word)).0 (step_met h idle word false (long_of word)).1
 
-  -- another word than an option and `--`
+  -- a word that is neither an option nor `--`
   other_comes : (rows : List Row) (pending : Option (Text × List Text)) (word : Text) (rest : List Text) → fault_held rows pending ≡ [] → bytes_eq (codes "--") word ≡ false → option_in which word ≡ None
       → ComesFrom (asked_by_flag word) (walk_at (held rows pending) idle) (word ∷ rest)
   other_comes rows pending word rest fault e none = by_word (flags.flag_or_plain kinds good which rows pending word e)
@@ -419,7 +419,7 @@ module _ (kinds : ValueParser) (good : IsKindParser kinds) (which : Optioned) wh
           subst (λ b. ComesFrom (asked b) (walk_at h idle) (word ∷ rest)) (sym plain.1.no_help)
           (turn_refused (walk_at h idle) word rest (ap are_mistakes (plain_idle h word refl plain.1)))
 
-  -- what is asked by the words behind these
+  -- what is requested by the words that follow
   abbrev Follows : List Text → Type 0
   Follows rest =
       (more : Given) (rows : List Row) (pending : Option (Text × List Text)) → Holds more rows pending → ComesFrom (asked_options which more rest) (walk_at (held rows pending) idle) rest
@@ -470,7 +470,7 @@ module _ (kinds : ValueParser) (good : IsKindParser kinds) (which : Optioned) wh
             fit = row.fit_option kinds good which given name value takes holds.fit is both.1;
           }))
 
-  -- of a flag that is a mistake
+  -- a flag with a value is a mistake
   flag_value_comes : (given : Given) (rows : List Row) (pending : Option (Text × List Text)) (word name value : Text) (rest : List Text)
       → bytes_eq word (codes "--") ≡ false → long_of word ≡ Some (name, Some value) → takes_of which name ≡ Some nothing
       → ComesFrom (taken which given name value (λ more. asked_options which more rest)) (walk_at (held rows pending) idle) (word ∷ rest)
@@ -536,7 +536,7 @@ module _ (kinds : ValueParser) (good : IsKindParser kinds) (which : Optioned) wh
             fit = row.fit_flag kinds good which given name holds.fit is;
           }))
 
-  -- `--name`, and its value in the next word
+  -- `--name`, with its value in the next word
   behind_comes : (given : Given) (rows : List Row) (pending : Option (Text × List Text)) (word name next : Text) (takes : Takes) (rest : List Text) → IsValued takes → Holds given rows pending
       → bytes_eq word (codes "--") ≡ false → long_of word ≡ Some (name, None) → takes_of which name ≡ Some takes → Follows rest
       → ComesFrom (if is_flag next then mistake else taken which given name next (λ more. asked_options which more rest)) (walk_at (held rows pending) idle) (word ∷ next ∷ rest)
@@ -620,7 +620,7 @@ module _ (kinds : ValueParser) (good : IsKindParser kinds) (which : Optioned) wh
           (λ does. subst (λ b. ComesFrom (chosen b) behind rest) (sym does) (follows more now (Some (name, next ∷ [])) (fine does)))
           (λ fails. subst (λ b. ComesFrom (chosen b) behind rest) (sym fails) (bad_rest now (Some (name, next ∷ [])) (bad fails) rest)))
 
-  -- all words behind it
+  -- all words after the command
   options_come : (given : Given) (rows : List Row) (pending : Option (Text × List Text)) (words : List Text) → Holds given rows pending → ComesFrom (asked_options which given words) (walk_at (held rows pending) idle) words
   options_come given rows pending [] holds = good_comes given rows pending holds
   options_come given rows pending (word ∷ []) holds =
@@ -726,7 +726,7 @@ module _ (kinds : ValueParser) (good : IsKindParser kinds) (which : Optioned) wh
       by_long from behind e None long = subst (λ o. ComesFrom (by_option o) w (word ∷ next ∷ rest)) (sym (ap in_long long)) (other_comes rows pending word (next ∷ rest) holds.fault e (ap in_long long))
       by_long from behind e (Some (name, v)) long = by_taken from behind e name v long (takes_of which name) refl
 
-  -- from the beginning
+  -- all words after the command, from the beginning
   pub options_lead : (words : List Text) → Comes which (asked_options which [] words) (level_fault level [] nothing_held words false []) (rest_rows (walk_from nothing_held) words)
   options_lead words =
       subst (λ ks. Comes which (asked_options which [] words) ks (rest_rows (walk_from nothing_held) words)) (sym (rest_is (walk_from nothing_held) words))

@@ -1,9 +1,9 @@
--- Places of bytes that were worked out by hand.
+-- Places of bytes, worked out by hand.
 use Rattle.std.proofs.Common.{◌≡◌, ℕ, List, [], ◌∷◌, ◌++◌, refl, codes}
 use Rattle.std.specs.List.{flat_map}
 use Rattle.tool_cli.specs.Place.{before_in_line, on_in_line, line_number, column_number, room_for}
 
--- the two numbers, and the line with the caret below it
+-- the numbers of line and column, and the line with the caret below it
 abbrev seen : List ℕ → ℕ → (ℕ × ℕ) × List ℕ
 seen text at = (
   (line_number text at, column_number text at),

@@ -23,7 +23,7 @@ use Rattle.tool_cli.specs.declared.words.Request.TheVariants as request
 
 -- ---- flags
 
--- a flag that has a row is read as it says
+-- a flag is read as its row says
 pub flag_read : (f : Found) (name : Text) (given r : Bool) → IsFlagOf name given (rows_of f) → (one_text f name ≡ Some (codes "true") → r ≡ true)
     → (one_text f name ≡ Some (codes "false") → r ≡ false) → r ≡ given
 flag_read f name true r is if_so if_not = if_so (one_text-rows f name ∙ is.looked)
@@ -47,7 +47,7 @@ unreadable form.Readable is = absurd (true≢false (sym is))
 
 -- ---- the command's name
 
--- the command of this name is that one
+-- the command with the name of a command is that command
 named_back : (which : Optioned) → command_named (name_of which) ≡ Some which
 named_back to_run = refl
 named_back to_test = refl
@@ -64,12 +64,12 @@ same_command which other e = same which other (sym (named_back which) ∙ (ap co
     same : (c d : Optioned) → Some c ≡ Some d → c ≡ d
     same c d e = cc
 
--- so what its rows hold is what that command reads of them
+-- what the rows of a command request does not depend on which command of that name is meant
 pub request_named : (which other : Optioned) (r : Request) (rows : List Row) (name : Text) → name ≡ name_of which → name ≡ name_of other → IsRequestOf which r rows → IsRequestOf other r rows
 request_named which other r rows name is named read =
     subst (λ c. IsRequestOf c r rows) (same_command which other (sym is ∙ named)) read
 
--- a name that none of the others has is that of `run`
+-- a name that is none of the other commands' names is `run`
 pub record IsNoOther (name : Text) : Type 0 where
   pub test : name ≢ codes "test"
   pub compile : name ≢ codes "compile"
@@ -91,7 +91,7 @@ run_left to_explain r rows name is other read = absurd (other.explain is)
 
 -- ---- the command that was entered
 
--- a command of this name, with these rows, asks for that
+-- a command of this name, with these rows, requests this
 pub record IsOf (i : Invocation) (name : Text) (rows : List Row) : Type 0 where
   pub which : Optioned
   pub named : name ≡ name_of which

@@ -1,4 +1,4 @@
--- What is held between two words behind a command, and the rows of its options in the end.
+-- What is held between two words after a command, and the final rows of its options.
 use Rattle.std.proofs.Common.{◌≡◌, ◌∙◌, ℕ, Bool, true, false, true≢false, ◌&&◌, ◌||◌, List, [], ◌∷◌, ◌++◌}
 use Rattle.std.proofs.Common.{Option, Some, None, inl, inr, ◌⊎◌, refl, sym, subst, ap, codes, fold, not}
 use Rattle.std.proofs.lemmas.Bool.{and_parts}
@@ -24,7 +24,7 @@ use Rattle.tool_cli.specs.declared.words.Detail.TheVariants as detail
 use Rattle.tool_cli.proofs.KindLemmas.{by_test, same_text, text_itself, are_mistakes}
 use Rattle.tool_cli.proofs.RuleLemmas.{rule, rules_in, rules, option_rules, help_filled, is_default, sound, none_taken}
 
--- all but flags
+-- an option that takes a value
 abbrev pub IsValued : Takes → Type 0
 IsValued nothing = ⊥
 IsValued takes = Unit {0}
@@ -35,7 +35,7 @@ pub not_true : (b : Bool) → not b ≡ true → b ≡ false
 not_true true e = absurd (true≢false (sym e))
 not_true false e = refl
 
--- a row that isn't there is added at the end
+-- a row that does not exist is added at the end
 added : (name : Text) (change : Row → List Row) (missing rows : List Row) → has_row name rows ≡ false → at_row name change missing rows ≡ rows ++ missing
 added name change missing [] e = refl
 added name change missing (r ∷ rs) e =
@@ -58,7 +58,7 @@ has_more name r (x ∷ xs) =
     by_test (bytes_eq x.id name) (has_row name ((x ∷ xs) ++ r ∷ []) ≡ has_row name (x ∷ xs) || bytes_eq r.id name)
     (λ is. rw is refl) (λ is. rw is (has_more name r xs))
 
--- Of the parser of kinds it is known what it takes and how that is read.
+-- Parameters: the parser of kinds, with what it accepts and how that is read.
 module _ (kinds : ValueParser) (good : IsKindParser kinds) where
   -- ---- what is held between two words
 
@@ -74,7 +74,7 @@ module _ (kinds : ValueParser) (good : IsKindParser kinds) where
   reading_given None = reading.AsWritten
   reading_given (Some takes) = reading_for takes
 
-  -- and by which parser it is taken
+  -- by which parser the text of an option is checked
   abbrev parser_in : Takes → ValueParser
   parser_in (number most) = parser.Signed (pos 1) (pos most)
   parser_in kind = kinds
@@ -152,7 +152,7 @@ module _ (kinds : ValueParser) (good : IsKindParser kinds) where
       (λ fits. absurd (true≢false (rw (new, fits) at h))) (λ other. rw (new, good.accepts value ∙ other) (refused kinds)))
   bad_use name value nothing rows valued h = absurd valued
 
-  -- a flag, which stands for its text
+  -- a flag, which has the text `true`
   pub flag_used : (name : Text) (rows : List Row) → used (rule kinds name nothing) [] rows ≡ used (rule kinds name nothing) (codes "true" ∷ []) rows
   flag_used name rows = refl
 
@@ -162,7 +162,7 @@ module _ (kinds : ValueParser) (good : IsKindParser kinds) where
   pub bad_flag_use : (name : Text) (rows : List Row) → has_row name rows ≡ true → are_mistakes (use_fault false (rule kinds name nothing) [] rows) ≡ true
   bad_flag_use name rows old = rw old refl
 
-  -- what is given is what the options take, and a flag has its text
+  -- the text is what the option takes, and `true` for a flag
   abbrev is_text_of : Option Takes → Text → Bool
   is_text_of (Some nothing) text = bytes_eq (codes "true") text
   is_text_of takes text = is_value_of takes text
@@ -187,9 +187,9 @@ module _ (kinds : ValueParser) (good : IsKindParser kinds) where
   pub fit_flag : (which : Optioned) (given : Given) (name : Text) → AreFit which given → takes_of which name ≡ Some nothing → AreFit which (given ++ (name, codes "true") ∷ [])
   fit_flag which given name fit is = fit_more which given (name, codes "true") fit (ap (λ m. is_text_of m (codes "true")) is)
 
-  -- ---- the rows in the end
+  -- ---- the final rows
 
-  -- the text that stands for an option which isn't given
+  -- the text of an option that is not given
   abbrev default_for : Takes → Text
   default_for (number most) = codes "1"
   default_for kind = codes "set"
@@ -204,7 +204,7 @@ module _ (kinds : ValueParser) (good : IsKindParser kinds) where
     reading = reading_of (parser_in takes);
   }
 
-  -- an option that wasn't used gets its first row
+  -- an option that was not used gets its first row
   left_out : (name : Text) (takes : Takes) (rows : List Row) → has_row name rows ≡ false → with_default rows (rule kinds name takes) ≡ rows ++ first_row name takes ∷ []
   left_out name (number most) rows none = rw none (added name (more_values source.DefaultValue (codes "1" ∷ [])) (first_row name (number most) ∷ []) rows none)
   left_out name kind rows none = rw none (added name (more_values source.DefaultValue (codes "set" ∷ [])) (first_row name kind ∷ []) rows none)
@@ -259,7 +259,7 @@ module _ (kinds : ValueParser) (good : IsKindParser kinds) where
   either_still takes other name text d rows apart (inl there) = inl (there_still takes other name text d rows there)
   either_still takes other name text d rows apart (inr lacks) = inr (lacking_still takes other name text d rows apart lacks)
 
-  -- the rows with what was left out
+  -- the rows with those of options that were not given
   abbrev with_left_out : Options → List Row → List Row
   with_left_out options rows = fold with_default rows (option_rules kinds options)
 
@@ -306,7 +306,7 @@ module _ (kinds : ValueParser) (good : IsKindParser kinds) where
   there which takes name given is =
       there_in_the_end (options_of which) takes name (text_of takes name given) (rows_of which given) is (given_or_not which takes name given is)
 
-  -- a text that was given is one that the option takes, and so is what stands for it
+  -- the text that was given is one that the option takes, if the default text is one
   fits_is : (which : Optioned) (name other : Text) (given : Given) → AreFit which given → is_text_of (takes_of which name) other ≡ true → is_text_of (takes_of which name) (text_given name other given) ≡ true
   fits_is which name other [] fit one = one
   fits_is which name other (g ∷ rest) fit one =

@@ -1,4 +1,4 @@
--- The rules of a command's options, as `clap` builds them: by name, by letter and by place.
+-- The rules of a command's options, as `clap` builds them: by name, by letter and by position.
 use Rattle.std.proofs.Common.{◌≡◌, ℕ, Bool, true, false, ◌&&◌, List, [], ◌∷◌, ◌++◌, Some, None, refl, ap, ap₂, codes, not}
 use Rattle.std.specs.Prelude.{get_or, map}
 use Rattle.std.specs.List.{list_all, list_any}
@@ -24,7 +24,7 @@ option_rules p options = map (λ o. rule p o.0 o.1) options
 abbrev pub rules_in : ValueParser → Options → List Rule
 rules_in p options = option_rules p options ++ help_filled ∷ []
 
--- and a command
+-- the rules of a command, as `clap` builds them
 abbrev pub rules : ValueParser → Optioned → List Rule
 rules p which = rules_in p (options_of which)
 
@@ -32,9 +32,9 @@ abbrev pub level : ValueParser → Optioned → Shape
 level p which =
     record (get_or (built (tool_app p)).subs 0 help_shape) { name = name_of which; rules = rules p which }
 
--- ---- what is known of the options of each command
+-- ---- facts about the options of each command
 
--- what stands for an option that isn't given is what it takes
+-- the default text of an option is one that it takes
 abbrev pub is_default : Text × Takes → Bool
 is_default (name, number most) = is_value_of (Some (number most)) (codes "1")
 is_default (name, kind) = is_value_of (Some kind) (codes "set")
@@ -81,7 +81,7 @@ by_id p (o ∷ rest) name takes is =
     by_test (bytes_eq o.0 name) (arg_by_id (rules_in p (o ∷ rest)) name ≡ Some (rule p name takes))
     (λ e. rw e (ap Some (same_rule p o name takes e (rw e at is)))) (λ e. rw e (by_id p rest name takes (rw e at is)))
 
--- another name has no rule, but `help`
+-- a name that is neither an option nor `help` has no rule
 pub no_rule : (p : ValueParser) (options : Options) (name : Text) → takes_in options name ≡ None → bytes_eq (codes "help") name ≡ false → arg_by_long (rules_in p options) name ≡ None
 no_rule p [] name none other = rw other refl
 no_rule p (o ∷ rest) name none other =
@@ -94,12 +94,12 @@ help_by_long p (o ∷ rest) none =
     by_test (bytes_eq o.0 (codes "help")) (arg_by_long (rules_in p (o ∷ rest)) (codes "help") ≡ Some help_filled)
     (λ e. absurd (taken_none o.1 (rw e at none))) (λ e. rw e (help_by_long p rest (rw e at none)))
 
--- no letter stands for an option
+-- no letter names an option
 pub by_letter : (p : ValueParser) (options : Options) (c : ℕ) → arg_by_short (rules_in p options) c ≡ arg_by_short (help_filled ∷ []) c
 by_letter p [] c = refl
 by_letter p (o ∷ rest) c = by_letter p rest c
 
--- no word stands for itself
+-- no position has an argument of its own
 pub no_index : (p : ValueParser) (options : Options) → arg_by_index (rules_in p options) 1 ≡ None
 no_index p [] = refl
 no_index p (o ∷ rest) = no_index p rest

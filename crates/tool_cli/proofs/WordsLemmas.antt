@@ -1,4 +1,4 @@
--- What the words of the command line ask for is what `clap` makes of them.
+-- What the words of the command line request is what `clap` makes of them.
 use Rattle.std.proofs.Common.{◌≡◌, ◌≢◌, ◌∙◌, Bool, true, false, true≢false, ◌||◌, List, [], ◌∷◌, ◌++◌}
 use Rattle.std.proofs.Common.{Option, Some, None, Result, Ok, Err, IsErrAnd, refl, sym, subst, ap, ap₂}
 use Rattle.std.proofs.Common.{inl, inr, codes, fold, length, arith}
@@ -41,12 +41,12 @@ memory_refused version e h = inl h
 memory_refused topic e h = inl h
 memory_refused mistake e h = ((λ other. absurd (cc)), (λ other. absurd (cc)))
 
--- an error for want of memory
+-- an error for out of memory
 pub memory_handed : (a : Asked) (r : Result Invocation Error) → IsErrAnd r (λ e. kind_of e ≡ error.OutOfMemory) → Reads a r
 memory_handed a (Ok i) h = absurd h
 memory_handed a (Err e) h = memory_refused a e h
 
--- an error that is handed on as it is
+-- an error that is passed on as it is
 pub handed_on : (a : Asked) (e : Error) (r : Result Invocation Error) → IsErrAnd r (λ x. x ≡ e) → Reads a (Err e) → Reads a r
 handed_on a e (Ok i) is h = absurd is
 handed_on a e (Err x) is h = rw is h
@@ -58,7 +58,7 @@ pub command_added : (old new added : Command) (app : App) (s : Shape) → app_of
 command_added old new added app s is local shape h =
     h.shape local ∙ ap (λ a. with_subcommand a (shape_of added)) is ∙ ap (with_subcommand app) shape
 
--- one more option of a command
+-- a command with one more option
 abbrev with_option : Shape → Rule → Shape
 with_option s r = record s { rules = s.rules ++ r ∷ [] }
 
@@ -69,13 +69,13 @@ option_added old new added s r is local rule h = ap top_of (h.shape local) ∙ a
     top_of : App → Shape
     top_of a = a.top
 
--- which stands for no command below it
+-- an option that applies to no command below it
 pub option_local : (old new : Command) (added : Arg) → (fields_of old).has_globals ≡ false → added.global ≡ false → AddsArg old added new → (fields_of new).has_globals ≡ false
 option_local old new added none local h = h.globals ∙ ap₂ (λ a b. a || b) none local
 
--- ---- behind a command's name
+-- ---- after a command's name
 
--- the walk of the program's own level has stopped, with these words behind it
+-- the walk at the program's own level has stopped, with these words left
 abbrev stopped_at : Text → List Text → Walk
 stopped_at name words = record (walk_from nothing_held) { stopped = Some (name, words) }
 
@@ -91,7 +91,7 @@ unfolding walked walk_fault
 no_fault_past_stop s names name words [] = refl
 no_fault_past_stop s names name words (word ∷ rest) = no_fault_past_stop s names name (words ++ word ∷ []) rest
 
--- the command that is found by a word has it for its name
+-- a command that is found by a word has that word as its name
 named_so : (list : List Optioned) (word : Text) (which : Optioned) → find (λ c. bytes_eq (name_of c) word) list ≡ Some which → name_of which ≡ word
 named_so [] word which is = absurd (none_some which is)
   where
@@ -121,11 +121,12 @@ all_mistakes : (ks : Kinds) → are_mistakes ks ≡ true → list_all is_mistake
 all_mistakes [] h = refl
 all_mistakes (k ∷ ks) h = h
 
--- What is said of the program's own app goes by what is known of the parser of kinds.
+-- Parameters: the parser of kinds, with what it accepts and how that is read; the facts about the program's own app
+-- depend on it.
 module _ (kinds : ValueParser) (good : IsKindParser kinds) where
   -- ---- what `clap` makes of words
 
-  -- of words that ask for this: kinds of errors, and the command that is entered with its rows
+  -- the errors for words that request this, and the command that is entered with its rows
   abbrev Leads : Asked → Kinds → Option (Text × List Row) → Type 0
   Leads (command i) ks found = (ks ≡ []) × IsEntered i found
   Leads help ks found = ks ≡ error.DisplayHelp ∷ []
@@ -157,13 +158,13 @@ module _ (kinds : ValueParser) (good : IsKindParser kinds) where
   abbrev found_by : List Text → Option (Text × List Row)
   found_by words = subcommand_of (tool_app kinds) words
 
-  -- ---- behind a command's name
+  -- ---- after a command's name
 
   abbrev fault_behind : Optioned → List Text → Kinds
   fault_behind which rest = level_fault (level kinds which) [] nothing_held rest false []
 
-  abbrev rows_behind : Optioned → List Text → List Row
-  rows_behind which rest = rest_rows kinds good which (walk_from nothing_held) rest
+  abbrev following_rows : Optioned → List Text → List Row
+  following_rows which rest = rest_rows kinds good which (walk_from nothing_held) rest
 
   behind : (which : Optioned) (p : Text) (rest : List Text) → fault_at (p ∷ name_of which ∷ rest) ≡ fault_behind which rest
   unfolding walked walk_fault defaults_fault
@@ -176,7 +177,7 @@ module _ (kinds : ValueParser) (good : IsKindParser kinds) where
   behind to_scan p rest = rw (no_fault_past_stop top top_names (codes "scan") [] rest, past_stop top.rules top_names (codes "scan") [] rest) (no_more (fault_behind to_scan rest))
   behind to_explain p rest = rw (no_fault_past_stop top top_names (codes "explain") [] rest, past_stop top.rules top_names (codes "explain") [] rest) (no_more (fault_behind to_explain rest))
 
-  found_at : (which : Optioned) (p : Text) (rest : List Text) → found_by (p ∷ name_of which ∷ rest) ≡ Some (name_of which, rows_behind which rest)
+  found_at : (which : Optioned) (p : Text) (rest : List Text) → found_by (p ∷ name_of which ∷ rest) ≡ Some (name_of which, following_rows which rest)
   unfolding walked
   found_at to_run p rest = ap (λ w. entered (built (tool_app kinds)) w.stopped) (past_stop top.rules top_names (codes "run") [] rest)
   found_at to_test p rest = ap (λ w. entered (built (tool_app kinds)) w.stopped) (past_stop top.rules top_names (codes "test") [] rest)
@@ -187,15 +188,15 @@ module _ (kinds : ValueParser) (good : IsKindParser kinds) where
   found_at to_scan p rest = ap (λ w. entered (built (tool_app kinds)) w.stopped) (past_stop top.rules top_names (codes "scan") [] rest)
   found_at to_explain p rest = ap (λ w. entered (built (tool_app kinds)) w.stopped) (past_stop top.rules top_names (codes "explain") [] rest)
 
-  -- words lead to what this asks for
+  -- words lead to what is requested
   abbrev LeadsTo : Asked → List Text → Type 0
   LeadsTo a words = Leads a (fault_at words) (found_by words)
 
   command_leads : (which : Optioned) (p : Text) (rest : List Text) → LeadsTo (asked_options which [] rest) (p ∷ name_of which ∷ rest)
   command_leads which p rest = lead (asked_options which [] rest) (options_lead kinds good which rest)
     where
-      lead : (a : Asked) → Comes which a (fault_behind which rest) (rows_behind which rest) → LeadsTo a (p ∷ name_of which ∷ rest)
-      lead (command i) h = (behind which p rest ∙ h.0, record { which = which; rows = rows_behind which rest; named = found_at which p rest; read = h.1 })
+      lead : (a : Asked) → Comes which a (fault_behind which rest) (following_rows which rest) → LeadsTo a (p ∷ name_of which ∷ rest)
+      lead (command i) h = (behind which p rest ∙ h.0, record { which = which; rows = following_rows which rest; named = found_at which p rest; read = h.1 })
       lead help h = behind which p rest ∙ h
       lead topic h = absurd h
       lead version h = absurd h
@@ -241,7 +242,7 @@ module _ (kinds : ValueParser) (good : IsKindParser kinds) where
 
   -- ---- what is read
 
-  -- words without a fault ask for the command that is entered
+  -- words without an error request the command that is entered
   command_asked : (words : List Text) → fault_at words ≡ [] → (i : Invocation) × (asked words ≡ command i) × IsEntered i (found_by words)
   command_asked words none = by_asked (asked words) refl (words_lead words)
     where
@@ -263,7 +264,7 @@ module _ (kinds : ValueParser) (good : IsKindParser kinds) where
       refused_as topic h = elim (rw h at among) [ inl is ↦ inr (inl is) | inr more ↦ elim more [ inl is ↦ inr (inr is) | inr none ↦ absurd none ] ]
       refused_as mistake h = no_help_among (kind_of e) (fault_at words) (all_mistakes (fault_at words) h) among
 
-  -- ---- of the program's own app
+  -- ---- the program's own app
 
   simple_and_free : is_simple_and_free (tool_app kinds) ≡ true
   unfolding clap_on_literals

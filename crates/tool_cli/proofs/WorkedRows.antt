@@ -1,4 +1,4 @@
--- Words of a command line, and what they ask for.
+-- Words of a command line, and what they request.
 use Rattle.std.proofs.Common.{◌≡◌, ℕ, List, [], ◌∷◌, refl, codes}
 use Rattle.clap.proofs.OnLiterals.{clap_on_literals}
 use Rattle.clap.specs.Walk.{Text}
@@ -10,7 +10,7 @@ use Rattle.tool_cli.specs.declared.words.Detail.TheVariants as detail
 use Rattle.tool_cli.specs.declared.words.Request.{Request}
 use Rattle.tool_cli.specs.declared.words.Request.TheVariants as request
 
--- a command whose refusal is told by its line, and one whose refusal is explained
+-- a command with error lines alone, and one with explanations
 abbrev plainly : Request → Asked
 plainly r = command (record { request = r; detail = detail.Line })
 
@@ -237,7 +237,7 @@ behind_an_option : scan (codes "-V" ∷ []) ≡ mistake
 unfolding clap_on_literals
 behind_an_option = refl
 
--- ---- a refusal that is explained
+-- ---- a fault that is explained
 
 abbrev run : List Text → Asked
 run words = asked (codes "ets_tool" ∷ codes "run" ∷ words)

@@ -1,4 +1,4 @@
--- How the program ends: what its two streams gain, and its status.
+-- How the program ends: what its two streams gain, and its exit status.
 use Rattle.std.specs.Prelude.{ℕ, ◌≡◌, ◌≢◌, ◌⊎◌, ◌++◌, Option, IfSome, Some, Result, Ok, Err, List, [], codes}
 use Rattle.term_core.specs.Datum.{Datum}
 use Rattle.std.specs.Io.KnownBytes.{Keeps, Appends}
@@ -25,19 +25,19 @@ use Rattle.tool_cli.specs.declared.words.Invocation.{Invocation}
 use Rattle.tool_cli.specs.declared.words.Request.{Request}
 use Rattle.tool_cli.specs.declared.words.Request.TheVariants as request
 
--- The program ends for this refusal: with its status, and its line on standard error; or with 3 where there was no
--- memory for the line, and then with nothing there.
+-- The program ends with this fault: with the status of the fault, and its error line on standard error; or, if memory
+-- ran out for the line, with status 3 and nothing there.
 abbrev pub EndsBy : ToolFault → (err err' : Option (List ℕ)) → (failed : Type 0) → ℕ → Type 0
 EndsBy f err err' failed status =
     ((status ≡ status_of f) × Tells err err' failed (line_of f)) ⊎ ((status ≡ 3) × Keeps err err')
 
--- a command's outcome ends the program: with 0 and nothing on standard error, or for its refusal
+-- the program ends with a command's outcome: with status 0 and nothing on standard error, or with its fault
 abbrev pub EndsWith : Result (Unit {0}) ToolFault → (err err' : Option (List ℕ)) → (failed : Type 0) → ℕ
     → Type 0
 EndsWith (Ok x) err err' failed status = (status ≡ 0) × Keeps err err'
 EndsWith (Err f) err err' failed status = EndsBy f err err' failed status
 
--- what a command writes for terms; a shell's input is lines
+-- what a command writes for the terms of its input; for shells, whose input is lines, see `HasOutcome`
 abbrev pub Writes : Request → List Datum → (old new : Option (List ℕ)) → Type 0
 Writes (request.Run form) terms old new = WritesAnswers (answers form) terms old new
 Writes (request.Test form) terms old new = WritesAnswers (outcomes form) terms old new
@@ -49,7 +49,7 @@ Writes request.Prompt terms old new = ⊥
 Writes (request.Scan o) terms old new = WritesScan o terms old new
 Writes (request.Explain keypos) terms old new = WritesExplanation keypos terms old new
 
--- how it ends early
+-- how a command ends early, given the terms of its input
 abbrev pub StopsOn : Request → List Datum → (old new : Option (List ℕ)) → ToolFault → Type 0
 StopsOn (request.Run form) terms old new f = StopsAnswers (answers form) terms old new f
 StopsOn (request.Test form) terms old new f = StopsAnswers (outcomes form) terms old new f
@@ -61,8 +61,8 @@ StopsOn request.Prompt terms old new f = ⊥
 StopsOn (request.Scan o) terms old new f = StopsTerms o terms old new f
 StopsOn (request.Explain keypos) terms old new f = StopsExplanation terms old new f
 
--- What a command's outcome says of standard output; of a script there may be no term, and a scan's options are allowed.
--- Of a shell for a person it says nothing but why it ends early.
+-- What a command's outcome says about standard output. A script may have no term, and a scan's options are in their
+-- ranges. For a shell for a person it says only why it ends early.
 abbrev pub HasOutcome : Request → (known old new : Option (List ℕ)) → Result (Unit {0}) ToolFault
     → Type 0
 HasOutcome request.Script known old new (Ok x) = OfScript known (λ terms. Writes request.Script terms old new)
@@ -78,34 +78,34 @@ HasOutcome r known old new (Ok x) = OfTerms known (λ terms. Writes r terms old 
 HasOutcome r known old new (Err f) =
     Stops known old new f (λ terms. StopsOn r terms old new f)
 
--- a command takes its input line by line
+-- a command that reads its input line by line
 abbrev pub IsShell : Request → Type 0
 IsShell request.Shell = Unit {0}
 IsShell request.Prompt = Unit {0}
 IsShell r = ⊥
 
--- a command ran, and its outcome ends the program
+-- a command ran, and the program ends with its outcome
 pub record EndsRequest (r : Request) (known out out' err err' : Option (List ℕ)) (failed : Type 0)
     (status : ℕ) : Type 0 where
   pub outcome : Result (Unit {0}) ToolFault
   pub written : HasOutcome r known out out' outcome
   pub ended : EndsWith outcome err err' failed status
 
--- The program ends for this refusal of an input: with its status, and on standard error its line, and behind it what it
--- means; or with 3 where there was no memory for the line, and then with nothing there.
+-- The program ends with this fault of an input: with the status of the fault, and on standard error its error line,
+-- followed by what it means. If memory ran out for the line, it ends with status 3 and nothing there.
 abbrev pub EndsTold : List ℕ → ToolFault → (err err' : Option (List ℕ)) → (failed : Type 0) → ℕ → Type 0
 EndsTold input f err err' failed status =
     ((status ≡ status_of f) × (told : List ℕ) × IsTold input f told × Tells err err' failed (line_of f ++ told))
     ⊎ ((status ≡ 3) × Keeps err err')
 
--- as `EndsWith`, of an input whose refusal is explained
+-- the program ends with the outcome of a command over this input, and explains a fault
 abbrev pub EndsTelling : List ℕ → Result (Unit {0}) ToolFault → (err err' : Option (List ℕ)) → (failed : Type 0) → ℕ
     → Type 0
 EndsTelling input (Ok x) err err' failed status = (status ≡ 0) × Keeps err err'
 EndsTelling input (Err f) err err' failed status = EndsTold input f err err' failed status
 
--- A command ran over the input that the reader gave, and its outcome ends the program; a refusal is explained. What was
--- written and how the command came out is what it is where a refusal isn't explained.
+-- A command ran over the input that the reader gave, and the program ends with its outcome and explains a fault.
+-- Standard output and the outcome are the same as without explanations.
 pub record EndsExplained (r : Request) (known out out' err err' : Option (List ℕ)) (failed : Type 0)
     (status : ℕ) : Type 0 where
   pub outcome : Result (Unit {0}) ToolFault
@@ -115,7 +115,7 @@ pub record EndsExplained (r : Request) (known out out' err err' : Option (List �
   pub alike : HasOutcome r known out out' outcome
   pub ended : EndsTelling input outcome err err' failed status
 
--- how a command ends the program by the detail in which its refusal is told
+-- how the program ends with a command, given how much of a fault it reports
 abbrev pub EndsIn : Detail → Request → (known out out' err err' : Option (List ℕ)) → (failed : Type 0) → ℕ → Type 0
 EndsIn detail.Line r known out out' err err' failed status =
     EndsRequest r known out out' err err' failed status
@@ -126,37 +126,37 @@ abbrev pub EndsInvocation : Invocation → (known out out' err err' : Option (Li
 EndsInvocation i known out out' err err' failed status =
     EndsIn i.detail i.request known out out' err err' failed status
 
--- no command ran and standard output gained nothing, as there was no memory
+-- memory ran out before a command ran, and standard output gained nothing
 abbrev pub EndsEarly : (out out' err err' : Option (List ℕ)) → (failed : Type 0) → ℕ → Type 0
 EndsEarly out out' err err' failed status =
     Keeps out out' × EndsBy fault.Memory err err' failed status
 
--- Help went to standard output, some text, and nothing to standard error; or the help could not be written, or there
--- was no memory for it.
+-- A help text was written to standard output, and nothing to standard error; or the help could not be written, or
+-- memory ran out for it.
 abbrev pub EndsHelp : (out out' err err' : Option (List ℕ)) → (failed : Type 0) → ℕ → Type 0
 EndsHelp out out' err err' failed status =
     ((status ≡ 0) × Keeps err err' × (text : List ℕ) × (text ≢ []) × Appends out out' text)
     ⊎ EndsBy fault.WriteFailed err err' failed status
     ⊎ EndsEarly out out' err err' failed status
 
--- The line of the version went to standard output, and nothing to standard error; or it could not be written, or there
--- was no memory to find out that it was asked for.
+-- The version line was written to standard output, and nothing to standard error; or it could not be written, or memory
+-- ran out while the words were read.
 abbrev pub EndsVersion : (out out' err err' : Option (List ℕ)) → (failed : Type 0) → ℕ → Type 0
 EndsVersion out out' err err' failed status =
     ((status ≡ 0) × Keeps err err' × Appends out out' (codes "ets_tool 0.1.0\n"))
     ⊎ EndsBy fault.WriteFailed err err' failed status
     ⊎ EndsEarly out out' err err' failed status
 
--- words that were not understood end the program with 64, and standard error says so
+-- the words were not understood: the program ends with status 64 and reports this on standard error
 abbrev pub TellsMistake : (err err' : Option (List ℕ)) → (failed : Type 0) → ℕ → Type 0
 TellsMistake err err' failed status = (status ≡ 64) × TellsText err err' failed
 
--- The words were not understood, or there was no memory to find that out; standard output gains nothing.
+-- The words were not understood, or memory ran out while they were read; standard output gains nothing.
 abbrev pub EndsMistaken : (out out' err err' : Option (List ℕ)) → (failed : Type 0) → ℕ → Type 0
 EndsMistaken out out' err err' failed status =
     Keeps out out' × (TellsMistake err err' failed status ⊎ EndsBy fault.Memory err err' failed status)
 
--- how the program ends by what its words ask for
+-- how the program ends, given what its words request
 abbrev pub EndsAsked : Asked → (known out out' err err' : Option (List ℕ)) → (failed : Type 0) → ℕ → Type 0
 EndsAsked (command i) known out out' err err' failed status =
     EndsInvocation i known out out' err err' failed status ⊎ EndsEarly out out' err err' failed status
@@ -166,8 +166,8 @@ EndsAsked topic known out out' err err' failed status =
     EndsHelp out out' err err' failed status ⊎ EndsMistaken out out' err err' failed status
 EndsAsked mistake known out out' err err' failed status = EndsMistaken out out' err err' failed status
 
--- The program ended so by what some words ask for: which words it was started with can't be said. Where they could not
--- be had it ends as by a mistake.
+-- The program ended in the way that some words lead to; which words it was started with can't be said here. If the
+-- words could not be obtained, it ends as for a mistake.
 abbrev pub EndsProgram : (known out out' err err' : Option (List ℕ)) → (failed : Type 0) → ℕ → Type 0
 EndsProgram known out out' err err' failed status =
     (a : Asked) × EndsAsked a known out out' err err' failed status

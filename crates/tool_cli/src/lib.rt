@@ -1,14 +1,14 @@
-//! The program `ets_tool`, from the words of its command line to its status.
+//! The program `ets_tool`, from the words of its command line to its exit status.
 //!
-//! The contract is that of `run_program`: what its two streams gain and the status that it ends with, by what its words
-//! ask for and by what the commands of `tool_query` and `tool_script` write. `run_words` and `run_invocation` are the
-//! same of given words and of one command; `run_request` and `run_explained` of a command whose refusal is told by its
-//! line, and with what it means.
+//! The contract is that of `run_program`: what its two streams gain and its exit status, according to what its words
+//! request and what the commands of `tool_query`, `tool_explain`, `tool_scan` and `tool_script` write. `run_words` runs
+//! the program on given words, and `run_invocation` runs one command. `run_request` runs a command and reports a fault
+//! by its error line alone; `run_explained` also reports what the fault means.
 //!
-//! - `program`: from words to a status, `specs/Program.antt`.
-//! - `telling`: what is told why it ends early, `specs/Telling.antt`.
-//! - `why`: what a refusal means, `specs/Why.antt`; `place`: where a byte stands in a text, `specs/Place.antt`.
-//! - `words`: what the words of the command line ask for, `specs/Words.antt`.
+//! - `program`: from words to an exit status, `specs/Program.antt`.
+//! - `telling`: where the program reports why it ends early, `specs/Telling.antt`.
+//! - `why`: what a fault means, `specs/Why.antt`; `place`: the place of a byte in a text, `specs/Place.antt`.
+//! - `words`: what the words of the command line request, `specs/Words.antt`.
 #![tactic(auto)]
 
 mod place;

@@ -1,4 +1,4 @@
-//! Where a byte stands in a text, as a person looks for it: in a line, below a column.
+//! The place of a byte in a text, as a person sees it: a line and a column.
 ghost use Rattle.std.specs.Prelude.{◌≡◌, ◌++◌, ◌+◌, take, OnOk, [], ◌∷◌, codes};
 ghost use Rattle.std.specs.Fmt.{decimal};
 ghost use Rattle.std.specs.List.{after_last, before_first, count_by, flat_map};
@@ -7,18 +7,18 @@ ghost use Rattle.tool_cli.specs.Place.{place_lines, ColumnsAreCharacters};
 
 use std::alloc::{AllocError, Allocator};
 
-/// A text up to a byte, and what follows.
+/// A text split at a byte.
 #[derive(Drop)]
 struct Place<'a> {
-    /// What stands before the byte.
+    /// The text before the byte.
     above: &'a [u8],
-    /// What stands before it in its line.
+    /// What is before the byte in its line.
     before: &'a [u8],
-    /// What stands in its line from it on.
+    /// What is in its line from the byte on.
     on: &'a [u8],
 }
 
-/// The place of a byte; one past the text's end is its end.
+/// Returns the place of a byte. If `at` is past the end of the text, it is the place of the end.
 fn place_of(text: &[u8], at: usize) -> Place<'_>
     ensures above { result.above.now ≡ take at text.now }
     ensures before { result.before.now ≡ before_in_line text.now at }
@@ -39,7 +39,7 @@ fn place_of(text: &[u8], at: usize) -> Place<'_>
     }
 }
 
-/// What stands behind the last line feed.
+/// Returns what follows the last line feed, or all if there is none.
 fn last_line(text: &[u8]) -> &[u8]
     ensures { result.now ≡ after_last is_feed text.now }
 {
@@ -51,7 +51,7 @@ fn last_line(text: &[u8]) -> &[u8]
     text
 }
 
-/// What stands before the first line feed.
+/// Returns what is before the first line feed, or all if there is none.
 fn first_line(text: &[u8]) -> &[u8]
     ensures { result.now ≡ before_first is_feed text.now }
 {
@@ -63,29 +63,29 @@ fn first_line(text: &[u8]) -> &[u8]
     text
 }
 
-/// How many line feeds there are.
+/// Returns the number of line feeds.
 fn feed_count(text: &[u8]) -> usize
     ensures { result ≡ count_by is_feed text.now }
 {
     text.iter().filter(|byte| **byte == b'\n').count()
 }
 
-/// Whether the byte begins a character in UTF-8.
+/// Returns whether the byte begins a character in UTF-8: any but 128 to 191.
 fn begins_character(byte: u8) -> bool
     ensures { result ≡ begins_character byte }
 {
     !(128..192).contains(&byte)
 }
 
-/// How many characters begin there.
+/// Returns the number of characters, counted by the bytes that begin one.
 fn character_count(text: &[u8]) -> usize
     ensures { result ≡ count_by begins_character text.now }
 {
     text.iter().filter(|byte| begins_character(**byte)).count()
 }
 
-/// Puts at the end where the byte stands in the text: the numbers of its line and its column, the line, and a caret
-/// under the byte, each on a line of its own.
+/// Appends the place of a byte of the text: the numbers of its line and its column, the line, and a caret under the
+/// byte, each on a line of its own.
 pub(crate) fn put_place<A: Allocator + Copy>(
     alloc: A,
     text: &[u8],
@@ -100,7 +100,7 @@ pub(crate) fn put_place<A: Allocator + Copy>(
     put_caret(place.before, out)
 }
 
-/// Puts the numbers of line and column, each counted from 1.
+/// Appends a line with the numbers of line and column, each counted from 1.
 fn put_numbers<A: Allocator + Copy>(
     alloc: A,
     place: &Place<'_>,
@@ -118,7 +118,7 @@ fn put_numbers<A: Allocator + Copy>(
     Ok(())
 }
 
-/// Puts the line.
+/// Appends the line of the place.
 fn put_line<A: Allocator>(place: &Place<'_>, out: &mut Vec<u8, A>) -> Result<(), AllocError>
     ensures { OnOk result (out.new.items
         ≡ out.old.items ++ (place.now.before.now ++ place.now.on.now ++ 10 ∷ [])) }
@@ -129,7 +129,7 @@ fn put_line<A: Allocator>(place: &Place<'_>, out: &mut Vec<u8, A>) -> Result<(),
     Ok(())
 }
 
-/// Puts a caret behind the room for these bytes.
+/// Appends a caret after blanks as wide as these bytes.
 fn put_caret<A: Allocator>(before: &[u8], out: &mut Vec<u8, A>) -> Result<(), AllocError>
     ensures { OnOk result (out.new.items
         ≡ out.old.items ++ flat_map room_for before.now ++ 94 ∷ 10 ∷ []) }
@@ -140,7 +140,7 @@ fn put_caret<A: Allocator>(before: &[u8], out: &mut Vec<u8, A>) -> Result<(), Al
     out.extend_from_slice(b"^\n")
 }
 
-/// Puts the room for a byte.
+/// Appends a blank for a byte that begins a character, or a tab for a tab; nothing for other bytes.
 fn put_room<A: Allocator>(byte: u8, out: &mut Vec<u8, A>) -> Result<(), AllocError>
     ensures { OnOk result (out.new.items ≡ out.old.items ++ room_for byte) }
 {
@@ -150,7 +150,7 @@ fn put_room<A: Allocator>(byte: u8, out: &mut Vec<u8, A>) -> Result<(), AllocErr
     Ok(())
 }
 
-/// Puts a number's decimal digits at the end.
+/// Appends the decimal digits of a number.
 fn put_number<A: Allocator + Copy>(
     alloc: A,
     number: usize,
@@ -162,8 +162,8 @@ fn put_number<A: Allocator + Copy>(
     out.extend_from_slice(digits.as_bytes())
 }
 
-/// A law of columns: where what stands before the byte in its line is text, its column is one more than the characters
-/// there.
+/// States that, if the bytes before the byte in its line are UTF-8, the column is one more than their number of
+/// characters.
 pub fn columns_are_characters()
     ensures { ColumnsAreCharacters }
 {}

@@ -1,4 +1,4 @@
-//! The program from its words to its status: what it reads, and what it writes on which of two streams.
+//! The program from its words to its exit status: what it reads, and what it writes to which of its two streams.
 ghost use Rattle.std.specs.Prelude.{◌≡◌, ◌≢◌, ◌⊎◌, [], IfErr, MatchBool, OnOk, map};
 ghost use Rattle.std.specs.Io.KnownBytes.{Appends, Keeps};
 ghost use Rattle.clap.specs.Words.{kind_of};
@@ -29,17 +29,18 @@ use tool_query::{tool_compile, tool_run, tool_test, tool_verify};
 use tool_scan::tool_scan;
 use tool_script::{run_prompt, run_script, run_shell};
 
-/// The status of a program that did what it was asked.
+/// The exit status of a program that did what was requested.
 const DONE: u8 = 0;
-/// The status where there is no memory, not even for the line of a refusal.
+/// The exit status if memory runs out even for the error line.
 const NO_MEMORY: u8 = 3;
-/// The status where the words were not understood.
+/// The exit status if the words were not understood.
 const BAD_WORDS: u8 = 64;
 /// What `--version` writes.
 const VERSION_LINE: &[u8] = b"ets_tool 0.1.0\n";
 
-/// Runs the program on the words that it was started with, and answers its status. It reads from `reader`, writes what
-/// it was asked for to `out` and tells `err` why it ends early; only a failure of `out` changes the status.
+/// Runs the program on the words that it was started with, and returns its exit status. It reads from `reader`, writes
+/// its output to `out` and reports to `err` why it ends early. A failure of `out` changes the status; one of `err` does
+/// not.
 #[tactic(auto, using(tool_query::proofs::RunLemmas::kept))]
 pub fn run_program<H: Env + AllocGlobal + Threads + Wait + Sync, R: Read, O: Write, E: Tell>(
     rt: &H,
@@ -56,14 +57,15 @@ pub fn run_program<H: Env + AllocGlobal + Threads + Wait + Sync, R: Read, O: Wri
     }
 }
 
-/// The words that the program was started with, its name first. Words that are not UTF-8 are an error.
+/// Returns the words that the program was started with, its name first. Fails if a word is not UTF-8 or memory runs
+/// out.
 fn words_of<H: Env + AllocGlobal>(rt: &H) -> io::Result<Vec<String>> {
     let words = env::args(rt)?.collect(rt.alloc())?;
     Ok(words)
 }
 
-/// As `run_program`, on these words, of which the first is the program's name: it runs the command that they ask for,
-/// or shows help or the version where they ask for that.
+/// Runs the program on these words, of which the first is the program's name, and returns the exit status. It runs the
+/// command that they request, or shows help or the version.
 pub fn run_words<'a, H: Threads + Wait + Sync, S: AsStr, R: Read, O: Write, E: Tell>(
     rt: &H,
     alloc: Global,
@@ -83,8 +85,8 @@ pub fn run_words<'a, H: Threads + Wait + Sync, S: AsStr, R: Read, O: Write, E: T
     }
 }
 
-/// Runs one command, and answers the status that the program ends with; a refusal is told in the detail that is asked
-/// for. Parts of the table of a scan are of the sort `P`.
+/// Runs one command, and returns the program's exit status. Reports a fault by its error line, with an explanation if
+/// the invocation has one. Parts of the table of a scan are of the type `P`.
 pub fn run_invocation<
     H: Threads + Wait + Sync,
     P: Part<A> + Drop + Send,
@@ -106,8 +108,8 @@ pub fn run_invocation<
     }
 }
 
-/// As `run_request`, but what a refusal means is told behind its line. The input is read whole before the command runs,
-/// but for a shell, which no byte of its input ends.
+/// Runs one command and returns the exit status as `run_request` does, and reports after the error line what the fault
+/// means. The input is read whole before the command runs, except for a shell, whose faults name no byte of its input.
 pub fn run_explained<
     H: Threads + Wait + Sync,
     P: Part<A> + Drop + Send,
@@ -140,7 +142,7 @@ pub fn run_explained<
     }
 }
 
-/// Whether a command takes its input line by line.
+/// Returns whether a command reads its input line by line.
 fn is_shell(request: Request) -> bool
     ensures { MatchBool result (IsShell request) ((request ≢ Request.Shell) × (request ≢ Request.Prompt)) }
 {
@@ -151,8 +153,8 @@ fn is_shell(request: Request) -> bool
     }
 }
 
-/// Runs one command, and answers the status that the program ends with. Parts of the table of a scan are of the sort
-/// `P`.
+/// Runs one command, reports a fault by its error line, and returns the program's exit status. Parts of the table of a
+/// scan are of the type `P`.
 pub fn run_request<
     H: Threads + Wait + Sync,
     P: Part<A> + Drop + Send,
@@ -169,7 +171,7 @@ pub fn run_request<
     end(alloc, outcome, err)
 }
 
-/// What one command comes to.
+/// Runs one command and returns its outcome.
 fn command_outcome<
     H: Threads + Wait + Sync,
     P: Part<A> + Drop + Send,
@@ -194,7 +196,8 @@ fn command_outcome<
     }
 }
 
-/// The status that the outcome of a command ends the program with, once the line of its refusal is told.
+/// Returns the exit status for the outcome of a command, and reports the error line of a fault. Reports nothing if
+/// memory runs out for the line; the status is then 3.
 fn end<A: Allocator + Copy, E: Tell>(alloc: A, outcome: Result<(), ToolFault>, err: &mut E) -> u8
     ensures { EndsWith outcome (E.told err.old) (E.told err.new) (E.has_failed err.new) result }
 {
@@ -211,8 +214,8 @@ fn end<A: Allocator + Copy, E: Tell>(alloc: A, outcome: Result<(), ToolFault>, e
     }
 }
 
-/// As `end`, but behind the line stands what the refusal of this input means, or nothing where there is no memory for
-/// that.
+/// Returns the exit status for the outcome of a command over this input, and reports a fault: its error line, followed
+/// by what it means. Leaves out the latter if memory runs out for it.
 #[tactic(auto, using(crate::proofs::EndLemmas::ends_told))]
 fn end_explained<A: Allocator + Copy, E: Tell>(
     alloc: A,
@@ -236,8 +239,8 @@ fn end_explained<A: Allocator + Copy, E: Tell>(
     }
 }
 
-/// The status where the words ask for no command, once what `clap` says is written: help that was asked for goes to
-/// `out`, and so does the line of the version.
+/// Returns the exit status if the words request no command, and writes what `clap` says: help and the version line,
+/// which were requested, to `out`, and any other error to `err`.
 fn end_unasked<O: Write, E: Tell>(
     alloc: Global,
     error: &clap::Error,
@@ -278,8 +281,8 @@ fn end_unasked<O: Write, E: Tell>(
     end(alloc, write_text(shown(&text), out), err)
 }
 
-/// Tells what `clap` says of words that were not understood, or that they were not where there is no memory for its
-/// text.
+/// Reports what `clap` says about words that were not understood. If memory runs out for its text, reports only that
+/// they were not.
 fn tell_mistake<E: Tell>(alloc: Global, error: &clap::Error, err: &mut E)
     ensures { TellsText (E.told err.old) (E.told err.new) (E.has_failed err.new) }
 {
@@ -289,7 +292,7 @@ fn tell_mistake<E: Tell>(alloc: Global, error: &clap::Error, err: &mut E)
     }
 }
 
-/// Writes what was asked for that no command writes.
+/// Writes output that no command writes: help or the version line. Fails with `WriteFailed`.
 fn write_text<O: Write>(text: &[u8], out: &mut O) -> Result<(), ToolFault>
     ensures written { OnOk result (Appends (O.contents out.old) (O.contents out.new) text.now) }
     ensures failed { IfErr result (λ fault. fault ≡ ToolFault.WriteFailed) }
@@ -300,7 +303,7 @@ fn write_text<O: Write>(text: &[u8], out: &mut O) -> Result<(), ToolFault>
     Ok(())
 }
 
-/// The status where the words could not be had: there was no memory, or one is not UTF-8.
+/// Returns the exit status if the words could not be obtained, and reports why: memory ran out, or a word is not UTF-8.
 fn end_unread<E: Tell>(alloc: Global, error: &io::Error, err: &mut E) -> u8
     ensures memory { error_kind error.now ≡ ErrorKind.OutOfMemory
         → EndsBy ToolFault.Memory (E.told err.old) (E.told err.new) (E.has_failed err.new) result }

@@ -1,35 +1,36 @@
-//! Where the program says why it ends early.
+//! Where the program reports why it ends early.
 ghost use Rattle.std.specs.Prelude.{◌≡◌, ◌≢◌, IsTrue, false, []};
 ghost use Rattle.tool_cli.specs.Telling.{Tells};
 
 use std::io::Write;
 
-/// Who is told why the program ends early. That telling failed changes nothing for who tells, but is kept.
+/// Where the program reports why it ends early. A report that fails changes nothing for the caller; that it failed is
+/// remembered.
 pub trait Tell {
     ghost use Rattle.std.specs.Prelude.{ℕ, Option, List};
     ghost use Rattle.tool_cli.specs.Telling.{Tells};
 
-    /// What was told so far, where that is known.
+    /// What was reported so far, if that is known.
     ghost told: { Self → Option (List ℕ) };
-    /// Telling failed once, and some of what was told may be lost.
+    /// A report failed, and some of what was reported may be lost.
     ghost has_failed: { Self → Type 0 };
 
-    /// Tells these bytes, behind what was told before.
+    /// Reports these bytes, after what was reported before.
     fn tell(&mut self, bytes: &[u8])
         ensures { Tells (told self.old) (told self.new) (has_failed self.new) bytes.now };
 }
 
-/// A writer that is told, such as standard error.
+/// A writer to which reports go, such as standard error.
 #[derive(Drop)]
 pub struct Told<W: Write + Drop> {
-    /// Where it is written.
+    /// Where the reports are written.
     pub writer: W,
     /// Whether a write failed.
     pub has_failed: bool,
 }
 
 impl<W: Write + Drop> Told<W> {
-    /// Told nothing so far.
+    /// Returns a `Told` that has reported nothing so far.
     pub fn new(writer: W) -> Self
         ensures { result ≡ record { writer = writer; has_failed = false } }
     {
@@ -55,7 +56,7 @@ impl<W: Write + Drop> Tell for Told<W> {
     }
 }
 
-/// What is shown of a text: something in any case.
+/// Returns the bytes that are reported of a text: the text, or `error` and a line feed if it is empty.
 pub(crate) fn shown(text: &str) -> &[u8]
     ensures { result.now ≢ [] }
 {

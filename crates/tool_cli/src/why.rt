@@ -1,4 +1,4 @@
-//! What a refusal means, for those who read its line.
+//! What a fault means, for readers of its error line.
 ghost use Rattle.std.specs.Prelude.{ℕ, ◌≡◌, ◌++◌, List, IfOk, OnOk, OnErr};
 ghost use Rattle.tool_cli.specs.Why.{place_in, lines_at, Explains};
 
@@ -7,9 +7,8 @@ use crate::telling::shown;
 use std::alloc::{AllocError, Allocator};
 use tool_io::ToolFault;
 
-/// Puts what a refusal of this input means at the end: a text of one line, and where a byte of the input is at fault
-/// the numbers of its line and column, that line, and a caret under the byte. Where no memory is given what was there
-/// stays.
+/// Appends what a fault of this input means: a text of one line. If a byte of the input is at fault, the numbers of its
+/// line and column, that line, and a caret under the byte follow. If an allocation fails, `out` is unchanged.
 #[tactic(auto, using(crate::proofs::WhyLemmas::is_put))]
 pub(crate) fn put_meaning<A: Allocator + Copy>(
     alloc: A,
@@ -25,7 +24,7 @@ pub(crate) fn put_meaning<A: Allocator + Copy>(
     out.extend_from_slice(meaning.as_slice())
 }
 
-/// What a refusal of this input means.
+/// Returns what a fault of this input means, as lines.
 #[tactic(auto, using(crate::proofs::WhyLemmas::explains))]
 fn meaning<A: Allocator + Copy>(
     alloc: A,
@@ -41,7 +40,7 @@ fn meaning<A: Allocator + Copy>(
     Ok(meaning)
 }
 
-/// Puts at the end where the byte stands that a refusal names.
+/// Appends the place of the byte that a fault names, or nothing if it names none.
 fn put_place_of<A: Allocator + Copy>(
     alloc: A,
     fault: &ToolFault,
@@ -57,7 +56,7 @@ fn put_place_of<A: Allocator + Copy>(
     }
 }
 
-/// The byte of the input that a refusal names.
+/// Returns the byte of the input that a fault names, or `None`.
 fn place_in(fault: ToolFault) -> Option<usize>
     ensures { result ≡ place_in fault }
 {

@@ -22,49 +22,49 @@ use std::convert::AsStr;
 use term_text::Form;
 use tool_scan::{ScanKind, ScanOptions};
 
-/// What the program is asked to do.
+/// What the program is to do.
 #[derive(Clone, Copy, Debug, PartialEq, Eq)]
 pub enum Request {
     /// Answer a specification or a code file on objects, in texts of this form.
     Run(Form),
-    /// Show how each object comes out, in texts of this form.
+    /// Show the outcome of each object, in texts of this form.
     Test(Form),
     /// Write the code file of a specification.
     Compile,
-    /// Say what is in a code file.
+    /// Show the bounds of the code in a code file.
     Verify,
     /// Reply to commands on tables.
     Script,
-    /// Reply to commands on tables while they come.
+    /// Reply to commands on tables as they arrive.
     Shell,
-    /// The same for a person, with a prompt, and with what a refusal means.
+    /// Reply to commands on tables as they arrive, for a person: with a prompt, and with what an error means.
     Prompt,
-    /// Answer a specification on objects that are put into a table, by several threads.
+    /// Answer a specification on objects that are inserted into a table, with several threads.
     Scan(ScanOptions),
-    /// Show the code of a specification or of a code file, and which objects a walk by it looks at in a table whose key
-    /// is at this place, counted from 1.
+    /// Show the code of a specification or of a code file, and which objects a walk by it visits in a table with this
+    /// key position, counted from 1.
     Explain(u16),
 }
 
-/// How much is told of a refusal.
+/// How much of a fault is reported.
 #[derive(Clone, Copy, Debug, PartialEq, Eq)]
 pub enum Detail {
-    /// Its line.
+    /// The error line.
     Line,
-    /// Its line, and behind it what it means.
+    /// The error line, followed by what the fault means.
     Explained,
 }
 
-/// What words ask for: a command, and how its refusal is told.
+/// What words request: a command, and how much of a fault is reported.
 #[derive(Clone, Copy, Debug, PartialEq, Eq)]
 pub struct Invocation {
-    /// What the program is asked to do.
+    /// What the program is to do.
     pub request: Request,
-    /// How much is told where that is refused.
+    /// How much is reported of a fault.
     pub detail: Detail,
 }
 
-/// What `--version` shows behind the program's name.
+/// What `--version` shows after the program's name.
 const VERSION: &str = "0.1.0";
 
 const ABOUT: &str = "Runs match specifications of ets over terms.";
@@ -271,7 +271,7 @@ const WHY_HELP: &str = "Say what a refusal means, behind its line";
 
 const STRINGS_HELP: &str = "Write printable text between double quotes";
 
-/// The program without its commands, one of which it wants.
+/// Returns the program without its commands, one of which it requires.
 fn tool<'a>(alloc: Global) -> Command<'a>
     ensures { app_of result ≡ bare_app }
 {
@@ -282,7 +282,7 @@ fn tool<'a>(alloc: Global) -> Command<'a>
         .subcommand_required(true)
 }
 
-/// A command without options, with what its help says.
+/// Returns a command without options, with its help texts.
 fn command<'a>(alloc: Global, name: &'a str, about: &'a str, example: &'a str) -> Command<'a>
     ensures shape { (p : ParserValue) → shape_of result ≡ shape_with p name.entry.now [] }
     ensures local { (fields_of result).has_globals ≡ false }
@@ -290,7 +290,7 @@ fn command<'a>(alloc: Global, name: &'a str, about: &'a str, example: &'a str) -
     Command::new(alloc, name).about(about).after_help(example)
 }
 
-/// A command whose only option is `--why`.
+/// Returns a command whose only option is `--why`.
 fn plain_command<'a>(
     alloc: Global,
     name: &'a str,
@@ -304,7 +304,7 @@ fn plain_command<'a>(
     command(alloc, name, about, example).arg(why(alloc))
 }
 
-/// A command whose options are `--strings` and `--why`.
+/// Returns a command whose options are `--strings` and `--why`.
 fn answering_command<'a>(
     alloc: Global,
     name: &'a str,
@@ -320,7 +320,7 @@ fn answering_command<'a>(
         .arg(why(alloc))
 }
 
-/// An option of such a value, which is another if it isn't given.
+/// Returns an option with a value, which is `default` if it is not given.
 fn option<'a>(
     alloc: Global,
     name: &'a str,
@@ -340,7 +340,7 @@ fn option<'a>(
         .value_parser(values)
 }
 
-/// A flag.
+/// Returns a flag, an option without a value.
 fn flag<'a>(alloc: Global, name: &'a str, about: &'a str) -> Arg<'a>
     ensures rule { (p : ParserValue) → rule_of result ≡ rule_for p name.entry.now nothing }
     ensures local { result.global ≡ false }
@@ -351,7 +351,7 @@ fn flag<'a>(alloc: Global, name: &'a str, about: &'a str) -> Arg<'a>
         .action(ArgAction::SetTrue)
 }
 
-/// That a refusal is explained.
+/// Returns the flag `--why`: a fault is explained.
 fn why<'a>(alloc: Global) -> Arg<'a>
     ensures rule { (p : ParserValue) → rule_of result ≡ rule_for p (codes "why") nothing }
     ensures local { result.global ≡ false }
@@ -359,7 +359,7 @@ fn why<'a>(alloc: Global) -> Arg<'a>
     flag(alloc, "why", WHY_HELP)
 }
 
-/// That a shell is for a person.
+/// Returns the flag `--prompt`: a shell is for a person.
 fn prompt<'a>(alloc: Global) -> Arg<'a>
     ensures rule { (p : ParserValue) → rule_of result ≡ rule_for p (codes "prompt") nothing }
     ensures local { result.global ≡ false }
@@ -367,14 +367,14 @@ fn prompt<'a>(alloc: Global) -> Arg<'a>
     flag(alloc, "prompt", PROMPT_HELP)
 }
 
-/// The names of kinds.
+/// Returns the parser of kind names.
 fn kind_names<'a>() -> ValueParser<'a>
     ensures { IsKindParser result }
 {
     ValueParser::Names(KINDS)
 }
 
-/// The kind of the table.
+/// Returns the option `--kind`: the kind of the table, a set if it is not given.
 fn kind<'a>(alloc: Global) -> Arg<'a>
     ensures rule { (p : ParserValue) × IsKindParser p × (rule_of result ≡ rule_for p (codes "kind") kind) }
     ensures local { result.global ≡ false }
@@ -382,7 +382,7 @@ fn kind<'a>(alloc: Global) -> Arg<'a>
     option(alloc, "kind", KIND_HELP, "KIND", "set", kind_names())
 }
 
-/// The place of a key.
+/// Returns the option `--keypos`: the key position, 1 to 65,535.
 fn keypos<'a>(alloc: Global) -> Arg<'a>
     ensures rule { (p : ParserValue) → rule_of result ≡ rule_for p (codes "keypos") (number 65535) }
     ensures local { result.global ≡ false }
@@ -391,7 +391,7 @@ fn keypos<'a>(alloc: Global) -> Arg<'a>
     option(alloc, "keypos", KEYPOS_HELP, "N", "1", numbers)
 }
 
-/// The number of parts.
+/// Returns the option `--parts`: the number of parts, 1 to 64.
 fn parts<'a>(alloc: Global) -> Arg<'a>
     ensures rule { (p : ParserValue) → rule_of result ≡ rule_for p (codes "parts") (number 64) }
     ensures local { result.global ≡ false }
@@ -400,7 +400,7 @@ fn parts<'a>(alloc: Global) -> Arg<'a>
     option(alloc, "parts", PARTS_HELP, "N", "1", numbers)
 }
 
-/// The number of workers.
+/// Returns the option `--workers`: the number of workers, 1 to 16.
 fn workers<'a>(alloc: Global) -> Arg<'a>
     ensures rule { (p : ParserValue) → rule_of result ≡ rule_for p (codes "workers") (number 16) }
     ensures local { result.global ≡ false }
@@ -409,7 +409,7 @@ fn workers<'a>(alloc: Global) -> Arg<'a>
     option(alloc, "workers", WORKERS_HELP, "N", "1", numbers)
 }
 
-/// The command `shell`, with its options.
+/// Returns the command `shell`, with its options.
 fn shell_command<'a>(alloc: Global) -> Result<Command<'a>, AllocError>
     ensures shape { IfOk result (λ command. (p : ParserValue) → shape_of command ≡ command_shape p to_shell) }
     ensures local { IfOk result (λ command. (fields_of command).has_globals ≡ false) }
@@ -419,7 +419,7 @@ fn shell_command<'a>(alloc: Global) -> Result<Command<'a>, AllocError>
         .arg(why(alloc))
 }
 
-/// The command `scan`, with its options.
+/// Returns the command `scan`, with its options.
 fn scan_command<'a>(alloc: Global) -> Result<Command<'a>, AllocError>
     ensures shape { IfOk result (λ command. (p : ParserValue) × IsKindParser p
         × (shape_of command ≡ command_shape p to_scan)) }
@@ -433,7 +433,7 @@ fn scan_command<'a>(alloc: Global) -> Result<Command<'a>, AllocError>
         .arg(why(alloc))
 }
 
-/// The command `explain`, with its options.
+/// Returns the command `explain`, with its options.
 fn explain_command<'a>(alloc: Global) -> Result<Command<'a>, AllocError>
     ensures shape { IfOk result (λ command. (p : ParserValue) → shape_of command ≡ command_shape p to_explain) }
     ensures local { IfOk result (λ command. (fields_of command).has_globals ≡ false) }
@@ -443,7 +443,7 @@ fn explain_command<'a>(alloc: Global) -> Result<Command<'a>, AllocError>
         .arg(why(alloc))
 }
 
-/// The program with one more command, whose only option is `--why`.
+/// Returns the program with one more command, whose only option is `--why`.
 fn with_plain<'a>(
     alloc: Global,
     program: Command<'a>,
@@ -457,7 +457,7 @@ fn with_plain<'a>(
     program.subcommand(plain_command(alloc, name, about, example)?)
 }
 
-/// The program with one more command, whose options are `--strings` and `--why`.
+/// Returns the program with one more command, whose options are `--strings` and `--why`.
 fn with_answering<'a>(
     alloc: Global,
     program: Command<'a>,
@@ -471,7 +471,7 @@ fn with_answering<'a>(
     program.subcommand(answering_command(alloc, name, about, example)?)
 }
 
-/// The program with the commands that have no option with a value.
+/// Returns the program with the commands whose only options are `--why` and, for some, `--strings`.
 fn plain_program<'a>(alloc: Global) -> Result<Command<'a>, AllocError>
     ensures { IfOk result (λ command. (p : ParserValue) → app_of command
         ≡ fold with_subcommand bare_app (map (command_shape p) plain_commands)) }
@@ -483,7 +483,7 @@ fn plain_program<'a>(alloc: Global) -> Result<Command<'a>, AllocError>
     with_plain(alloc, program, "script", SCRIPT_ABOUT, SCRIPT_EXAMPLE)
 }
 
-/// The program with its commands, as `clap` reads them.
+/// Returns the program with its commands, as `clap` reads them.
 fn program<'a>(alloc: Global) -> Result<Command<'a>, AllocError>
     ensures { IfOk result (λ command. (p : ParserValue) × IsKindParser p × (app_of command ≡ tool_app p)) }
 {
@@ -493,7 +493,7 @@ fn program<'a>(alloc: Global) -> Result<Command<'a>, AllocError>
         .subcommand(explain_command(alloc)?)
 }
 
-/// The kind that is asked for.
+/// Returns the kind that was entered or is the default.
 fn kind_in(matches: &ArgMatches<'_>) -> ScanKind
     requires { (k : KindValue) × IsKindOf k (rows_of (found_of matches.now)) }
     ensures { (k : KindValue) → IsKindOf k (rows_of (found_of matches.now)) → result ≡ k }
@@ -504,7 +504,7 @@ fn kind_in(matches: &ArgMatches<'_>) -> ScanKind
     }
 }
 
-/// The number of an option, which has one.
+/// Returns the number of an option, entered or the default.
 fn number(matches: &ArgMatches<'_>, name: &str) -> u16
     requires { (most : ℕ) × (n : ℕ) × (most < 65536) × IsReadOf name.now most n (rows_of (found_of matches.now)) }
     ensures { (most n : ℕ) → most < 65536 → IsReadOf name.now most n (rows_of (found_of matches.now))
@@ -516,7 +516,7 @@ fn number(matches: &ArgMatches<'_>, name: &str) -> u16
     }
 }
 
-/// The options of `scan`.
+/// Returns the options of `scan`.
 fn scan_options(matches: &ArgMatches<'_>) -> ScanOptions
     requires { (o : ScanOptions) × AreRead o (rows_of (found_of matches.now)) }
     ensures { (o : ScanOptions) → AreRead o (rows_of (found_of matches.now)) → result ≡ o }
@@ -529,7 +529,7 @@ fn scan_options(matches: &ArgMatches<'_>) -> ScanOptions
     }
 }
 
-/// How much is told of a refusal.
+/// Returns how much of a fault is reported: an explanation if `--why` was given.
 fn detail_in(matches: &ArgMatches<'_>) -> Detail
     requires { (d : DetailValue) × IsFlagOf (codes "why") (is_explained d) (rows_of (found_of matches.now)) }
     ensures { (d : DetailValue) → IsFlagOf (codes "why") (is_explained d) (rows_of (found_of matches.now)) → result ≡ d }
@@ -541,7 +541,7 @@ fn detail_in(matches: &ArgMatches<'_>) -> Detail
     }
 }
 
-/// The form in which answers are written.
+/// Returns the form in which answers are written: readable if `--strings` was given.
 fn form_in(matches: &ArgMatches<'_>) -> Form
     requires { (f : FormValue) × IsFlagOf (codes "strings") (shows_strings f) (rows_of (found_of matches.now)) }
     ensures { (f : FormValue) → IsFlagOf (codes "strings") (shows_strings f) (rows_of (found_of matches.now)) → result ≡ f }
@@ -553,7 +553,7 @@ fn form_in(matches: &ArgMatches<'_>) -> Form
     }
 }
 
-/// What a shell is asked to do.
+/// Returns the request for a shell: for a person if `--prompt` was given.
 fn shell_request(matches: &ArgMatches<'_>) -> Request
     requires { (b : Bool) × IsFlagOf (codes "prompt") b (rows_of (found_of matches.now)) }
     ensures { (b : Bool) → IsFlagOf (codes "prompt") b (rows_of (found_of matches.now)) → result ≡ shell_for b }
@@ -565,7 +565,7 @@ fn shell_request(matches: &ArgMatches<'_>) -> Request
     }
 }
 
-/// What the command of this name is asked to do.
+/// Returns the request of the command with this name and these options.
 fn request_in(name: &str, matches: &ArgMatches<'_>) -> Request
     requires { (which : Optioned) × (r : RequestValue) × (name.now ≡ name_of which)
         × IsRequestOf which r (rows_of (found_of matches.now)) }
@@ -584,7 +584,7 @@ fn request_in(name: &str, matches: &ArgMatches<'_>) -> Request
     }
 }
 
-/// The command that was entered, with its options.
+/// Returns the command that was entered, with its options.
 fn entered(matches: &ArgMatches<'_>) -> Invocation
     requires { (i : InvocationValue) × IsEntered i (subcommand_rows (out-ArgMatches matches.now).subcommand) }
     ensures { (i : InvocationValue) → IsEntered i (subcommand_rows (out-ArgMatches matches.now).subcommand) → result ≡ i }
@@ -598,8 +598,8 @@ fn entered(matches: &ArgMatches<'_>) -> Invocation
     }
 }
 
-/// What the words ask for; the first word is the program's name. Words that `clap` does not take, and words that ask
-/// for help or for the version, are its error.
+/// Returns what the words request; the first word is the program's name. Fails with the error of `clap` if the words
+/// are not understood, or request help or the version.
 pub fn read_words<'a, S: AsStr>(alloc: Global, words: &'a [S]) -> Result<Invocation, Error>
     ensures { Reads (asked (map S.text words.entry.now)) result }
 {

@@ -1,4 +1,4 @@
--- What is said of a query, put together of its parts.
+-- The explanation of a query, put together of its parts.
 use Rattle.std.proofs.Common.{◌≡◌, ◌∙◌, ℕ, List, [], ◌∷◌, ◌++◌, Option, None, refl, sym, ap, subst}
 use Rattle.term_core.specs.Datum.{Datum}
 use Rattle.term_core.specs.Datum.Datum.{integer, atom, tuple, map, nil, cons, binary}
@@ -32,7 +32,7 @@ meant_text keypos s p vs plan text code same answers variables plan_is code_is i
   text_is = is ∙ ap (λ l. l ++ code) plan_is;
 }
 
--- ---- what a term asks
+-- ---- which query a term is
 
 pub coded_explained : (keypos : ℕ) (d : Datum) (bytes text : List ℕ) → d ≡ binary bytes → (p : Program) × IsLoaded bytes p × QueryText keypos (Query.coded p) text → Explains keypos d text
 coded_explained keypos d bytes text is h = (Query.coded h.0, subst (λ e. IsQuery e (Query.coded h.0)) (sym is) (h.0, refl, h.1), h.2)
@@ -40,9 +40,9 @@ coded_explained keypos d bytes text is h = (Query.coded h.0, subst (λ e. IsQuer
 pub meant_explained : (keypos : ℕ) (d : Datum) (text : List ℕ) → IsNoBinary d → (s : Specification) × IsRead d s × QueryText keypos (Query.meant s) text → Explains keypos d text
 meant_explained keypos d text other h = (Query.meant h.0, asks_meant d h.0 other h.1, h.2)
 
--- ---- a term that asks nothing
+-- ---- a term that is no query
 
--- for another number of terms it isn't
+-- the number of terms is not why a term is no query
 one_term : (d : Datum) → IsNoQuery d fault.BadInput → ⊥
 one_term (integer z) h = h
 one_term (atom cs) h = h

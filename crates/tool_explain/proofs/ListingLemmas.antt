@@ -1,15 +1,15 @@
--- Texts that are put at the end, and those of numbered things, one after the other.
+-- Texts that are appended, and those of numbered things, one after the other.
 use Rattle.std.proofs.Common.{◌≡◌, ◌∙◌, ℕ, suc, ◌+◌, ◌<◌, ◌≤◌, List, [], ◌∷◌, ◌++◌, length, drop, get_or, sym, ap, append_assoc}
 use Rattle.std.proofs.Math.Numerals.{add-one}
 use Rattle.std.proofs.Math.Seq.{drop-cons}
 use Rattle.std.proofs.lemmas.List.{append-nil, drop_all}
 use Rattle.tool_explain.specs.Listing.{numbered}
 
--- a text behind another
-pub put_behind : (old text more between new : List ℕ) → between ≡ old ++ text → new ≡ between ++ more → new ≡ old ++ (text ++ more)
-put_behind old text more between new first then = then ∙ ap (λ l. l ++ more) first ∙ append_assoc old text more
+-- two texts appended one after the other
+pub put_last : (old text more between new : List ℕ) → between ≡ old ++ text → new ≡ between ++ more → new ≡ old ++ (text ++ more)
+put_last old text more between new first then = then ∙ ap (λ l. l ++ more) first ∙ append_assoc old text more
 
--- one more numbered thing is put
+-- the text of one more numbered thing is appended
 pub numbered_next : {X : Type 0} (text : ℕ → X → List ℕ) (xs : List X) (place n next : ℕ) (x : X) (lines more whole : List ℕ) → place < length xs
     → x ≡ get_or xs place x → next ≡ suc n → lines ++ numbered text n (drop place xs) ≡ whole → more ≡ lines ++ text n x
     → more ++ numbered text next (drop (place + 1) xs) ≡ whole
@@ -19,7 +19,7 @@ numbered_next text xs place n next x lines more whole there is after now put =
     let step : numbered text n (drop place xs) ≡ text n x ++ numbered text (suc n) rest = ap (numbered text n) split in
     rw (put, after, add-one place) (append_assoc lines (text n x) (numbered text (suc n) rest) ∙ ap (λ l. lines ++ l) (sym step) ∙ now)
 
--- all are put
+-- the texts of all numbered things are appended
 pub numbered_all : {X : Type 0} (text : ℕ → X → List ℕ) (xs : List X) (place n : ℕ) (lines whole : List ℕ) → length xs ≤ place
     → lines ++ numbered text n (drop place xs) ≡ whole → lines ≡ whole
 numbered_all text xs place n lines whole over now =

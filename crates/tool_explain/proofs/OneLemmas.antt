@@ -1,4 +1,4 @@
--- What is written is determined by what was read.
+-- The output is determined by the input.
 use Rattle.std.proofs.Common.{◌≡◌, ◌∙◌, ℕ, List, [], ◌∷◌, ◌++◌, Some, sym, ap, subst}
 use Rattle.term_core.specs.Datum.{Datum}
 use Rattle.term_text.specs.Laws.{SpellsOne}

@@ -15,23 +15,23 @@ use Rattle.tool_query.specs.Query.{Query, Answers, IsQuery, IsNoQuery}
 use Rattle.tool_explain.specs.Plan.{plan_text, bounds_text}
 use Rattle.tool_explain.specs.Listing.{listing}
 
--- the code that is shown of a query: that of the specification, or the file's
+-- the code that is shown for a query: that of the specification, or that of the file
 abbrev pub code_shown : Query → Program
 code_shown (Query.meant s) = code_of s
 code_shown (Query.coded p) = p
 
--- the variables of its slots, in rising order; of a file none are known
+-- the variables of the code's slots, in ascending order; those of a file are unknown
 abbrev pub variables_shown : Query → List ℕ
 variables_shown (Query.meant s) = specification_variables s
 variables_shown (Query.coded p) = []
 
--- the keys that a walk by it looks up, if it looks not at all objects: those that the specification names; of a file
--- none are known
+-- the keys that a walk by the query looks up, if it does not visit all objects: those that the specification names;
+-- those of a file are unknown
 abbrev pub keys_shown : ℕ → Query → Option (List Datum)
 keys_shown keypos (Query.meant s) = named_by keypos s
 keys_shown keypos (Query.coded p) = None
 
--- bounds of code, and its listing
+-- the text of code: its bounds, and its listing
 pub record CodeText (variables : List ℕ) (p : Program) (text : List ℕ) : Type 0 where
   pub budget : ℕ
   pub depth : ℕ
@@ -39,18 +39,19 @@ pub record CodeText (variables : List ℕ) (p : Program) (text : List ℕ) : Typ
   pub depth_is : IsDepth p depth
   pub text_is : text ≡ bounds_text budget depth ++ listing variables p
 
--- The text of a query: which objects a walk looks at, the bounds of the code that answers it, and that code's listing.
+-- The text of a query: which objects a walk visits, the bounds of the code that answers the query, and the listing of
+-- that code.
 pub record QueryText (keypos : ℕ) (q : Query) (text : List ℕ) : Type 0 where
   pub code : List ℕ
   pub answers : (object : Datum) → Answers q object (answer_of (code_shown q) object)
   pub code_is : CodeText (variables_shown q) (code_shown q) code
   pub text_is : text ≡ plan_text keypos (keys_shown keypos q) ++ code
 
--- what is said of what a term asks
+-- this is the explanation of the query that the term is
 abbrev pub Explains : ℕ → Datum → List ℕ → Type 0
 Explains keypos d text = (q : Query) × IsQuery d q × QueryText keypos q text
 
--- the writer gains what is said of the one term
+-- the terms are one, and the writer gains its explanation
 pub record WritesExplanation (keypos : ℕ) (terms : List Datum) (old new : Option (List ℕ)) : Type 0 where
   pub first : Datum
   pub text : List ℕ
@@ -58,7 +59,7 @@ pub record WritesExplanation (keypos : ℕ) (terms : List Datum) (old new : Opti
   pub explains : Explains keypos first text
   pub gained : Appends old new text
 
--- why nothing was written, and that nothing was; where the writer failed nothing is said of what it got
+-- why nothing was written, and that nothing was; if the writer failed, its contents are unspecified
 abbrev pub StopsExplanation : List Datum → (old new : Option (List ℕ)) → ToolFault → Type 0
 StopsExplanation terms old new fault.WriteFailed = Unit {0}
 StopsExplanation terms old new fault.Memory = Keeps old new

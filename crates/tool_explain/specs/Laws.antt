@@ -1,8 +1,8 @@
--- A law of what `explain` writes.
+-- A law of the output of `explain`.
 use Rattle.std.specs.Prelude.{ℕ}
 use Rattle.tool_query.specs.Laws.{IsOne}
 use Rattle.tool_explain.specs.Explain.{WritesExplanation}
 
--- what is written for an input is determined by it
+-- the output for an input is determined by it
 abbrev pub ExplanationIsOne : Type 0
 ExplanationIsOne = (keypos : ℕ) → IsOne (WritesExplanation keypos)

@@ -1,16 +1,16 @@
--- The listing of code: a line for each instruction, and the same of each routine.
+-- The listing of code: a line for each instruction of the main body, then of each routine.
 use Rattle.std.specs.Prelude.{ℕ, suc, ◌-◌, List, [], ◌∷◌, ◌++◌, length, codes, decimal}
 use Rattle.term_core.specs.Datum.{Datum}
 use Rattle.mcode.specs.Program.{Program, Routine}
 use Rattle.mcode.specs.declared.instr.Instr.{Instr}
 use Rattle.tool_explain.specs.Table.{mnemonic, operand_text, otherwise_text, blanks, in_column}
 
--- the number of an instruction, to the right of five columns, and its name
+-- the number of an instruction, right-aligned in five columns, and its name
 abbrev pub begun_line : ℕ → List ℕ → List ℕ
 begun_line pc name = (blanks (5 - length (decimal pc)) ++ decimal pc) ++ codes "  " ++ name
 
--- The line of an instruction: its number, its name, its operand and where it leads otherwise, by columns that begin
--- behind 18 and 36.
+-- The line of an instruction: its number, its name, its operand and where it jumps if it fails. The operand follows
+-- column 18 and the jump column 36.
 abbrev pub instruction_line : List ℕ → List Datum → ℕ → Instr → List ℕ
 instruction_line variables constants pc i =
     in_column 36
@@ -18,7 +18,7 @@ instruction_line variables constants pc i =
     (otherwise_text i)
     ++ 10 ∷ []
 
--- the texts of things behind each other, of which each has the number behind the last one's
+-- the texts of things one after the other, numbered from `n` in ascending order
 abbrev pub numbered : {X : Type 0} → (ℕ → X → List ℕ) → ℕ → List X → List ℕ
 numbered text n [] = []
 numbered text n (x ∷ xs) = text n x ++ numbered text (suc n) xs
@@ -27,15 +27,15 @@ numbered text n (x ∷ xs) = text n x ++ numbered text (suc n) xs
 abbrev pub body_lines : List ℕ → List Datum → List Instr → List ℕ
 body_lines variables constants is = numbered (instruction_line variables constants) 0 is
 
--- a routine's number and how many arguments it has, and its lines
+-- the heading of a routine, with its number and how many arguments it has, and its lines
 abbrev pub routine_text : List ℕ → List Datum → ℕ → Routine → List ℕ
 routine_text variables constants n t =
     codes "routine " ++ decimal n ++ codes ", arguments " ++ decimal (length t.arguments)
     ++ 10
     ∷ body_lines variables constants t.body.instructions
 
--- The listing of code whose slots are those of these variables, which are in rising order: its main body, and then its
--- routines.
+-- The listing of code: its main body, and then its routines. The slots are those of these variables, which are in
+-- ascending order.
 abbrev pub listing : List ℕ → Program → List ℕ
 listing variables p =
     body_lines variables p.constants p.instructions

@@ -11,13 +11,13 @@ walk_text keypos = codes "walk at keypos " ++ decimal keypos ++ codes ": "
 abbrev pub key_text : Datum → List ℕ
 key_text key = 32 ∷ text_of key
 
--- which objects a walk looks at: those of the keys that are named at a position, how many and which, or all
+-- which objects a walk visits: those of the named keys, with their number and the keys, or all
 abbrev pub plan_text : ℕ → Option (List Datum) → List ℕ
 plan_text keypos None = walk_text keypos ++ codes "all objects\n"
 plan_text keypos (Some keys) =
     walk_text keypos ++ decimal (length keys) ++ codes " looked up:" ++ flat_map key_text keys ++ codes "\n"
 
--- how many instructions a run executes at most, and how deep its stack is at most
+-- the maximal number of instructions that a run executes, and the maximal depth of its stack
 abbrev pub bounds_text : ℕ → ℕ → List ℕ
 bounds_text budget depth =
     codes "instructions of a run at most " ++ decimal budget ++ codes ", stack at most " ++ decimal depth ++ codes "\n"

@@ -1,4 +1,4 @@
--- What an instruction has in the columns of a listing: its name, its operand, and where it leads otherwise.
+-- What the columns of a listing have for an instruction: its name, its operand, and where it jumps if it fails.
 use Rattle.std.specs.Prelude.{ℕ, ◌-◌, ◌==◌, Option, Some, None, if◌then◌else◌, List, [], ◌∷◌, ◌++◌, length, slice_get, replicate, codes, decimal}
 use Rattle.term_core.specs.Datum.{Datum}
 use Rattle.prims_table.specs.Names.{name_of}
@@ -40,7 +40,7 @@ mnemonic (instr.Invoke r l) = codes "invoke"
 mnemonic instr.Return = codes "return"
 mnemonic instr.Fail = codes "fail"
 
--- the canonical text of a constant, nothing where there is none of this number
+-- the canonical text of a constant, or nothing if there is no constant
 abbrev pub found_text : Option Datum → List ℕ
 found_text None = []
 found_text (Some d) = text_of d
@@ -48,7 +48,7 @@ found_text (Some d) = text_of d
 abbrev pub constant_text : List Datum → ℕ → List ℕ
 constant_text constants number = found_text (slice_get constants number)
 
--- a slot by its variable, as `$1`, and by its number where it is none's, as `#0`
+-- a slot by its variable, as `$1`, or by its number if it has no variable, as `#0`
 abbrev pub variable_text : Option ℕ → ℕ → List ℕ
 variable_text None slot = 35 ∷ decimal slot
 variable_text (Some variable) slot = 36 ∷ decimal variable
@@ -56,11 +56,11 @@ variable_text (Some variable) slot = 36 ∷ decimal variable
 abbrev pub slot_text : List ℕ → ℕ → List ℕ
 slot_text variables slot = variable_text (slice_get variables slot) slot
 
--- a function of so many arguments, as `>/2`
+-- a function with its number of arguments, as `>/2`
 abbrev pub function_text : Primitive → ℕ → List ℕ
 function_text p arguments = name_of p ++ 47 ∷ decimal arguments
 
--- the operand of an instruction, nothing where it has none
+-- the operand of an instruction, or nothing if it has none
 abbrev pub operand_text : List ℕ → List Datum → Instr → List ℕ
 operand_text variables constants (instr.Const c) = constant_text constants c
 operand_text variables constants (instr.Value k l) = constant_text constants k
@@ -76,7 +76,7 @@ operand_text variables constants (instr.Call f n l) = function_text (prim.Functi
 operand_text variables constants (instr.Arith f l) = function_text (prim.Arithmetic f) 2
 operand_text variables constants i = []
 
--- where an instruction leads where it fails: what it may jump to, but for a jump, which always does
+-- where an instruction jumps if it fails: its jump target, except for a jump, which never fails
 abbrev pub otherwise_of : Instr → Option ℕ
 otherwise_of (instr.Jump l) = None
 otherwise_of i = target_of i
@@ -88,11 +88,12 @@ target_text (Some l) = codes "else " ++ decimal l
 abbrev pub otherwise_text : Instr → List ℕ
 otherwise_text i = target_text (otherwise_of i)
 
--- so many blanks
+-- `n` blanks
 abbrev pub blanks : ℕ → List ℕ
 blanks n = replicate n 32
 
--- a line with a text in a column, at least one blank behind what stands before it; no text takes no column
+-- a line with a text that follows a column, and is at least one blank after the text before it; an empty text adds
+-- nothing
 abbrev pub in_column : ℕ → List ℕ → List ℕ → List ℕ
 in_column column line text =
     if length text == 0 then line else (line ++ blanks (column - length line)) ++ 32 ∷ text

@@ -23,10 +23,10 @@ use tool_query::{load, only, specification_of};
 use verifier::Verified;
 use walk_query::named_keys;
 
-/// Reads one specification, or one code file, which is a binary, to the reader's end, and writes which objects a walk
-/// looks at in a table with this `keypos`, the most instructions and places of a run, and the code. The slots of a
-/// specification's code are written as its variables. An input that is refused writes nothing, and so does want of
-/// memory.
+/// Reads one specification, or one code file, which is a binary, up to the reader's end. Writes which objects a walk
+/// visits in a table with this `keypos`, the maximal number of instructions and stack depth of a run, and the code. The
+/// slots of a specification's code are written as its variables. Writes nothing if the input is rejected or memory runs
+/// out.
 pub fn tool_explain<A: Allocator + Copy, R: Read, W: Write>(
     alloc: A,
     keypos: u16,
@@ -43,7 +43,7 @@ pub fn tool_explain<A: Allocator + Copy, R: Read, W: Write>(
     explain_terms(alloc, keypos, terms.as_slice(), writer)
 }
 
-/// Writes what is said of the one term.
+/// Writes the explanation of the only term. More than one term is `BadInput`.
 fn explain_terms<A: Allocator + Copy, W: Write>(
     alloc: A,
     keypos: u16,
@@ -60,8 +60,8 @@ fn explain_terms<A: Allocator + Copy, W: Write>(
     write_lines(writer, &mut lines)
 }
 
-/// What is said of what a term asks: of a binary the code that it is the file of, of any other term the specification
-/// that it is read as.
+/// Returns the explanation of the query that a term is: for a binary that of the code of which it is the file, for any
+/// other term that of the specification as which it is read.
 fn explanation<A: Allocator + Copy>(
     alloc: A,
     keypos: u16,
@@ -76,7 +76,7 @@ fn explanation<A: Allocator + Copy>(
     of_term(alloc, keypos, term)
 }
 
-/// What is said of the code that bytes are the file of.
+/// Returns the explanation of the code of which the bytes are the file.
 fn of_file<A: Allocator + Copy>(
     alloc: A,
     keypos: u16,
@@ -93,7 +93,7 @@ fn of_file<A: Allocator + Copy>(
     }
 }
 
-/// What is said of the specification that a term is read as.
+/// Returns the explanation of the specification as which a term is read.
 fn of_term<A: Allocator + Copy>(
     alloc: A,
     keypos: u16,
@@ -110,7 +110,7 @@ fn of_term<A: Allocator + Copy>(
     }
 }
 
-/// What is said of code, of which it isn't known which keys it asks.
+/// Returns the explanation of code. Which keys it names is unknown, so its walk visits all objects.
 fn of_code<A: Allocator + Copy>(
     alloc: A,
     keypos: u16,
@@ -124,7 +124,7 @@ fn of_code<A: Allocator + Copy>(
     Ok(lines)
 }
 
-/// What is said of a specification.
+/// Returns the explanation of a specification.
 fn of_specification<A: Allocator + Copy>(
     alloc: A,
     keypos: u16,
@@ -144,7 +144,7 @@ fn of_specification<A: Allocator + Copy>(
     Ok(lines)
 }
 
-/// Puts the plan of a walk by a specification at the end.
+/// Appends which objects a walk by a specification visits.
 fn put_plan<A: Allocator + Copy>(
     alloc: A,
     keypos: u16,
@@ -160,7 +160,7 @@ fn put_plan<A: Allocator + Copy>(
     }
 }
 
-/// Puts the bounds and the listing of code at the end, whose slots are those of these variables.
+/// Appends the bounds and the listing of code, whose slots are those of these variables.
 fn put_code<A: Allocator + Copy>(
     alloc: A,
     variables: &[u32],

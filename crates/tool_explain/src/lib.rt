@@ -1,15 +1,14 @@
-//! The command `explain` of `ets_tool`: what a walk by a specification looks at, and the code that answers it, from a
-//! reader to a writer.
+//! The command `explain` of `ets_tool`: which objects a walk by a specification visits, and the code that answers it,
+//! from a reader to a writer.
 //!
-//! The contract is that of `tool_explain`: what is written is the text of the plan, of the bounds and of the listing of
-//! code that answers what the one term asks, where the listing is made of what each instruction has in three columns; an
-//! input that is refused writes nothing, and so does want of memory.
+//! The contract is that of `tool_explain`: the output is the plan of a walk, the bounds of a run, and the listing of
+//! the code of the query that the only term is. The listing has each instruction in three columns. Nothing is written
+//! if the input is rejected or memory runs out.
 //!
 //! - `table`: the columns of instructions, `specs/Table.antt`.
 //! - `listing`: the lines of code, `specs/Listing.antt`.
 //! - `plan`: the lines above them, `specs/Plan.antt`.
-//! - `explain`: the command, `specs/Explain.antt`; `laws`: that what is written is a function of what was read,
-//!   `specs/Laws.antt`.
+//! - `explain`: the command, `specs/Explain.antt`; `laws`: the output is a function of the input, `specs/Laws.antt`.
 #![tactic(auto)]
 
 mod explain;

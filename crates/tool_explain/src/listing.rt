@@ -8,14 +8,14 @@ use mcode::{Code, Instr, Routine};
 use std::alloc::{AllocError, Allocator};
 use term_core::Term;
 
-/// How wide the number of an instruction is.
+/// The width of the column of instruction numbers, in which they are right-aligned.
 const NUMBER_WIDTH: usize = 5;
-/// The column before the operand.
+/// The column that the operand follows.
 const OPERAND_COLUMN: usize = 18;
-/// The column before where an instruction leads otherwise.
+/// The column that the jump target follows.
 const OTHERWISE_COLUMN: usize = 36;
 
-/// The number of an instruction, to the right of its column, and the instruction's name.
+/// Returns the beginning of an instruction's line: its number, right-aligned in five columns, and its name.
 fn begun_line<A: Allocator + Copy>(
     alloc: A,
     pc: usize,
@@ -33,7 +33,7 @@ fn begun_line<A: Allocator + Copy>(
     Ok(line)
 }
 
-/// Puts the line of an instruction at the end.
+/// Appends the line of an instruction.
 fn put_instruction<A: Allocator + Copy>(
     alloc: A,
     variables: &[u32],
@@ -54,7 +54,7 @@ fn put_instruction<A: Allocator + Copy>(
     lines.extend_from_slice(line.as_slice())
 }
 
-/// Puts the lines of a body's instructions at the end.
+/// Appends the lines of a body's instructions.
 fn put_instructions<A: Allocator + Copy>(
     alloc: A,
     variables: &[u32],
@@ -71,7 +71,7 @@ fn put_instructions<A: Allocator + Copy>(
     Ok(())
 }
 
-/// Puts the lines of a routine at the end, its number and how many arguments it has above them.
+/// Appends a heading with the number of a routine and how many arguments it has, and then its lines.
 fn put_routine<A: Allocator + Copy>(
     alloc: A,
     variables: &[u32],
@@ -91,7 +91,7 @@ fn put_routine<A: Allocator + Copy>(
     put_instructions(alloc, variables, constants, routine.instructions(), lines)
 }
 
-/// Puts the lines of routines at the end.
+/// Appends the texts of routines, numbered from 1.
 fn put_routines<A: Allocator + Copy>(
     alloc: A,
     variables: &[u32],
@@ -115,7 +115,7 @@ fn put_routines<A: Allocator + Copy>(
     Ok(())
 }
 
-/// Puts the listing of code at the end, whose slots are those of these variables.
+/// Appends the listing of code, whose slots are those of these variables.
 pub(crate) fn put_listing<A: Allocator + Copy>(
     alloc: A,
     variables: &[u32],

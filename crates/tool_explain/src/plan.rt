@@ -1,4 +1,4 @@
-//! The lines above a listing: which objects a walk looks at, and how long and how deep a run is.
+//! The lines above a listing: which objects a walk visits, and how long and how deep a run is.
 ghost use Rattle.std.specs.Prelude.{◌≡◌, ◌++◌, OnOk, Some, None};
 ghost use Rattle.std.specs.List.{flat_map};
 ghost use Rattle.tool_explain.specs.Plan.{walk_text, plan_text, key_text, bounds_text};
@@ -8,7 +8,7 @@ use std::alloc::{AllocError, Allocator};
 use term_core::Term;
 use term_text::write_term;
 
-/// Puts the beginning of a plan at the end, up to what is looked at.
+/// Appends the beginning of a plan, up to which objects are visited.
 fn put_walk<A: Allocator + Copy>(keypos: u16, lines: &mut Vec<u8, A>) -> Result<(), AllocError>
     ensures { OnOk result (lines.new.items ≡ lines.old.items ++ walk_text keypos) }
 {
@@ -18,7 +18,7 @@ fn put_walk<A: Allocator + Copy>(keypos: u16, lines: &mut Vec<u8, A>) -> Result<
     Ok(())
 }
 
-/// Puts the plan of a walk that looks at all objects at the end.
+/// Appends the plan of a walk that visits all objects.
 pub(crate) fn put_whole_walk<A: Allocator + Copy>(
     keypos: u16,
     lines: &mut Vec<u8, A>,
@@ -30,7 +30,7 @@ pub(crate) fn put_whole_walk<A: Allocator + Copy>(
     Ok(())
 }
 
-/// Puts a blank and a key at the end.
+/// Appends a blank and a key.
 fn put_key<A: Allocator + Copy>(key: &Term<A>, lines: &mut Vec<u8, A>) -> Result<(), AllocError>
     ensures { OnOk result (lines.new.items ≡ lines.old.items ++ key_text key.now) }
 {
@@ -38,7 +38,7 @@ fn put_key<A: Allocator + Copy>(key: &Term<A>, lines: &mut Vec<u8, A>) -> Result
     write_term(key, lines)
 }
 
-/// Puts a blank and each key at the end.
+/// Appends each key after a blank.
 fn put_keys<A: Allocator + Copy>(keys: &[Term<A>], lines: &mut Vec<u8, A>) -> Result<(), AllocError>
     ensures { OnOk result (lines.new.items ≡ lines.old.items ++ flat_map key_text keys.now) }
 {
@@ -48,7 +48,7 @@ fn put_keys<A: Allocator + Copy>(keys: &[Term<A>], lines: &mut Vec<u8, A>) -> Re
     Ok(())
 }
 
-/// Puts the plan of a walk that looks these keys up at the end.
+/// Appends the plan of a walk that looks up these keys.
 pub(crate) fn put_look_ups<A: Allocator + Copy>(
     keypos: u16,
     keys: &[Term<A>],
@@ -64,7 +64,7 @@ pub(crate) fn put_look_ups<A: Allocator + Copy>(
     Ok(())
 }
 
-/// Puts the line of a budget and a depth at the end.
+/// Appends the line of a budget and a depth.
 pub(crate) fn put_bounds<A: Allocator + Copy>(
     budget: u32,
     depth: u16,

@@ -1,4 +1,4 @@
-//! What an instruction has in the columns of a listing.
+//! What the columns of a listing have for an instruction.
 ghost use Rattle.std.specs.Prelude.{◌≡◌, IfOk, decimal};
 ghost use Rattle.tool_explain.specs.Table.{mnemonic, operand_text, otherwise_of, otherwise_text};
 ghost use Rattle.tool_explain.specs.Table.{constant_text, function_text, slot_text};
@@ -10,7 +10,7 @@ use std::alloc::{AllocError, Allocator};
 use term_core::Term;
 use term_text::write_term;
 
-/// The name of an instruction, as the pages on code have it.
+/// Returns the name of an instruction, as the manual has it.
 pub(crate) const fn mnemonic(instr: Instr) -> &'static str
     ensures { result.now ≡ mnemonic instr }
 {
@@ -46,7 +46,7 @@ pub(crate) const fn mnemonic(instr: Instr) -> &'static str
     }
 }
 
-/// Where an instruction leads where it fails; a jump always leads to its operand.
+/// Returns where an instruction jumps if it fails, or `None` if it does not; a jump never fails.
 const fn otherwise_of(instr: Instr) -> Option<u16>
     ensures { result ≡ otherwise_of instr }
 {
@@ -56,7 +56,7 @@ const fn otherwise_of(instr: Instr) -> Option<u16>
     }
 }
 
-/// The text of a number.
+/// Returns the decimal text of a number.
 fn number_text<A: Allocator + Copy>(alloc: A, number: u16) -> Result<Vec<u8, A>, AllocError>
     ensures { IfOk result (λ text. text.items ≡ decimal number) }
 {
@@ -65,7 +65,7 @@ fn number_text<A: Allocator + Copy>(alloc: A, number: u16) -> Result<Vec<u8, A>,
     Ok(text)
 }
 
-/// The text of a constant, nothing where there is none of this number.
+/// Returns the canonical text of a constant, or nothing if there is no constant of this number.
 fn constant_text<A: Allocator + Copy>(
     alloc: A,
     constants: &[Term<A>],
@@ -80,7 +80,7 @@ fn constant_text<A: Allocator + Copy>(
     Ok(text)
 }
 
-/// The text of a slot: its variable, as `$1`, or its number where it is none's, as `#0`.
+/// Returns the text of a slot: its variable, as `$1`, or its number if it has no variable, as `#0`.
 fn slot_text<A: Allocator + Copy>(
     alloc: A,
     variables: &[u32],
@@ -102,7 +102,7 @@ fn slot_text<A: Allocator + Copy>(
     Ok(text)
 }
 
-/// The text of a function of so many arguments, as `>/2`.
+/// Returns the text of a function with its number of arguments, as `>/2`.
 fn function_text<A: Allocator + Copy>(
     alloc: A,
     function: Primitive,
@@ -116,8 +116,8 @@ fn function_text<A: Allocator + Copy>(
     Ok(text)
 }
 
-/// The text of an instruction's operand, in code whose slots are those of these variables and with these constants:
-/// nothing where it has none.
+/// Returns the text of an instruction's operand, given the variables of the slots and the constants; nothing if it has
+/// none.
 pub(crate) fn operand_text<A: Allocator + Copy>(
     alloc: A,
     variables: &[u32],
@@ -160,7 +160,7 @@ pub(crate) fn operand_text<A: Allocator + Copy>(
     }
 }
 
-/// The text of where an instruction leads where it fails, as `else 12`: nothing where it can't.
+/// Returns the text of where an instruction jumps if it fails, as `else 12`; nothing if it can't.
 pub(crate) fn otherwise_text<A: Allocator + Copy>(
     alloc: A,
     instr: Instr,

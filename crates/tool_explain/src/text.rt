@@ -1,10 +1,10 @@
-//! Texts that are put together.
+//! Building blocks of texts.
 ghost use Rattle.std.specs.Prelude.{◌≡◌, ◌++◌, OnOk, decimal};
 ghost use Rattle.tool_explain.specs.Table.{blanks, in_column};
 
 use std::alloc::{AllocError, Allocator};
 
-/// Puts a number's decimal digits at the end.
+/// Appends the decimal digits of a number.
 pub(crate) fn put_number<A: Allocator + Copy>(
     number: u64,
     line: &mut Vec<u8, A>,
@@ -15,7 +15,7 @@ pub(crate) fn put_number<A: Allocator + Copy>(
     line.extend_from_slice(digits.as_bytes())
 }
 
-/// Puts so many blanks at the end.
+/// Appends `count` blanks.
 pub(crate) fn put_blanks<A: Allocator>(
     count: usize,
     line: &mut Vec<u8, A>,
@@ -28,7 +28,8 @@ pub(crate) fn put_blanks<A: Allocator>(
     Ok(())
 }
 
-/// Puts a text into a column of a line, at least one blank behind what stands before it. No text takes no column.
+/// Appends a text that follows the given column of a line, and is at least one blank after the text before it. An empty
+/// text appends nothing.
 pub(crate) fn put_in_column<A: Allocator>(
     column: usize,
     text: &[u8],

@@ -1,4 +1,4 @@
--- What a writer gained at once, and one after the other.
+-- What a writer gains by two writes, and by none.
 use Rattle.std.proofs.Common.{◌≡◌, ℕ, Option, Some, None, List, [], ◌++◌, sym, append_assoc}
 use Rattle.std.proofs.lemmas.List.{append-nil}
 use Rattle.std.specs.Io.KnownBytes.{Appends}

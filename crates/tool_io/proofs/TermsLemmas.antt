@@ -19,7 +19,7 @@ no_text input f other only cause bad = record { unspelled = λ ds spelled. other
 refused_input : HasOneFault → (input : List ℕ) (f : TextFault) → IsRefusal input f → IsNoText input f
 refused_input one input f r = record { unspelled = λ ds spelled. one.none input ds f spelled r; other = r.other; cause = r.cause; bad_utf8 = r.bad_utf8 }
 
--- a text that is refused, though not for want of memory, spells nothing
+-- a rejected text spells nothing, unless memory ran out
 pub text_refused : (input : List ℕ) (f : TextFault) → ((ds : List Datum) → Spells input ds → f ≡ text.Memory) → HasCause input f → ((at : ℕ) → (f ≡ text.BadUtf8 at) ↔ IsValidUpTo input at) → IsUnspelled input (of_text f)
 text_refused input text.Memory only cause bad = tt
 text_refused input (text.TooDeep at) only cause bad = no_text input (text.TooDeep at) (λ e. absurd (cc)) only cause bad
@@ -30,7 +30,7 @@ text_refused input (text.BadUtf8 at) only cause bad = no_text input (text.BadUtf
 text_refused input (text.IntegerRange at) only cause bad = no_text input (text.IntegerRange at) (λ e. absurd (cc)) only cause bad
 text_refused input (text.UnsupportedEscape at) only cause bad = no_text input (text.UnsupportedEscape at) (λ e. absurd (cc)) only cause bad
 
--- an input without a term
+-- an input that spells no term is a syntax error at its end
 pub input_empty : (input : List ℕ) (terms : List Datum) → length terms ≡ 0 → Spells input terms → IsUnread input (fault.Text (text.Syntax (length input)))
 input_empty input [] none spelled = inr (record { spelled = spelled; place = refl })
 input_empty input (d ∷ ds) none spelled = absurd (omega (arith, none))
@@ -47,7 +47,7 @@ read_fault input (fault.File f) h = absurd h
 read_fault input (fault.Code f b) h = absurd h
 read_fault input fault.WriteFailed h = absurd h
 
--- where it spells none, it hasn't one
+-- a fault that says that an input spells no terms also says that it does not have one
 pub unspelled_is_unread : (input : List ℕ) (f : ToolFault) → IsUnspelled input f → IsUnread input f
 unspelled_is_unread input fault.Memory h = tt
 unspelled_is_unread input fault.ReadFailed h = tt
@@ -60,12 +60,12 @@ unspelled_is_unread input (fault.File f) h = absurd h
 unspelled_is_unread input (fault.Code f b) h = absurd h
 unspelled_is_unread input fault.WriteFailed h = absurd h
 
--- where reading fails, there are no terms
+-- where reading fails, the terms of the input (maybe none) can't be returned
 pub unspelled : (known : Option (List ℕ)) (f : ToolFault) → IsReadFault f → OfInput known (λ input. IsUnspelled input f)
 unspelled None f h = ([], tt, read_fault [] f h)
 unspelled (Some bytes) f h = (bytes, refl, read_fault bytes f h)
 
--- not one
+-- where reading fails, the terms of the input (at least one) can't be returned
 pub unread : (known : Option (List ℕ)) (f : ToolFault) → IsReadFault f → OfInput known (λ input. IsUnread input f)
 unread known f h =
     let none = unspelled known f h in
@@ -73,7 +73,7 @@ unread known f h =
 
 -- ---- term by term
 
--- what refuses a text, refuses it as an input
+-- a fault of the text is a fault of the input
 pub refusal_unspelled : HasOneFault → (input : List ℕ) (f : TextFault) → IsRefusal input f → IsUnspelled input (of_text f)
 refusal_unspelled one input text.Memory r = tt
 refusal_unspelled one input (text.TooDeep at) r = refused_input one input (text.TooDeep at) r
@@ -88,6 +88,6 @@ pub next_unspelled : HasOneFault → (input : List ℕ) (f : TextFault) → (f �
 next_unspelled one input f (inl memory) = rw memory tt
 next_unspelled one input f (inr r) = refusal_unspelled one input f r
 
--- no term stands first
+-- a text with no sentence is a syntax error at its end
 pub nothing_first : (input : List ℕ) → IsUtf8 input → Sentences (chars input) [] → IsUnread input (fault.Text (text.Syntax (length input)))
 nothing_first input utf8 s = inr (record { spelled = record { utf8 = utf8; sentences = s }; place = refl })

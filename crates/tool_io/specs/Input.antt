@@ -6,12 +6,12 @@ use Rattle.tool_io.specs.declared.fault.ToolFault.TheVariants as fault
 use Rattle.tool_io.specs.declared.input.Progress.{Progress}
 use Rattle.tool_io.specs.declared.input.Progress.TheVariants as progress
 
--- nothing is left at the end
+-- after a read that found the end, the reader has nothing left
 abbrev pub IsRead : Option (List ℕ) → Progress → Type 0
 IsRead left progress.More = Unit {0}
 IsRead left progress.End = IsAtEnd left
 
--- what the reader lost is what the input gained
+-- one read: what the reader lost is what the input gained
 pub record Continues (before after : Option (List ℕ)) (old new : List ℕ) (p : Progress) : Type 0
   where
     pub part : List ℕ
@@ -19,7 +19,7 @@ pub record Continues (before after : Option (List ℕ)) (old new : List ℕ) (p 
     pub gained : new ≡ old ++ part
     pub ended : IsRead after p
 
--- reading fails for want of memory, or where the reader does
+-- a fault of reading: out of memory, or the reader failed or did not end
 abbrev pub IsReadFault : ToolFault → Type 0
 IsReadFault fault.Memory = Unit {0}
 IsReadFault fault.ReadFailed = Unit {0}

@@ -1,4 +1,5 @@
--- Faults of texts, specifications, files and code as faults of the program: want of memory is one.
+-- Faults of texts, specifications, files and code as faults of the program. Each crate's out of memory becomes
+-- `Memory`.
 use Rattle.std.specs.Prelude.{ℕ}
 use Rattle.term_text.specs.declared.fault.TextFault.{TextFault}
 use Rattle.term_text.specs.declared.fault.TextFault.TheVariants as text
@@ -23,7 +24,7 @@ abbrev pub of_file : FileFault → ToolFault
 of_file file.Memory = fault.Memory
 of_file f = fault.File f
 
--- of the body of a number
+-- a fault of code in the body of this number
 abbrev pub of_code : code_fault.Fault → ℕ → ToolFault
 of_code code.Memory b = fault.Memory
 of_code f b = fault.Code f b

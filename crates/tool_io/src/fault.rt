@@ -1,4 +1,4 @@
-//! Why a command ends without its whole answer, and the line that says so.
+//! Why a command ends without its whole answer, and the error line that reports it.
 ghost use Rattle.std.specs.Prelude.{◌≡◌, ◌++◌, IfOk, OnOk, OnErr, option_map};
 ghost use Rattle.std.specs.Fmt.{decimal};
 ghost use Rattle.std.specs.List.{flat_map};
@@ -18,13 +18,13 @@ use verifier::BodyFault;
 /// Why a command ends without its whole answer.
 #[derive(Clone, Copy, Debug, PartialEq, Eq, Error)]
 pub enum ToolFault {
-    /// No memory was given.
+    /// An allocation failed.
     #[error("out of memory")]
     Memory,
-    /// The input is no text of terms.
+    /// The input does not spell terms.
     #[error("{0}")]
     Text(TextFault),
-    /// The input has other terms than the command reads.
+    /// The input does not have the terms that the command reads.
     #[error("other terms than the command reads")]
     BadInput,
     /// The first term is no specification.
@@ -33,10 +33,11 @@ pub enum ToolFault {
     /// The first term is no code file.
     #[error("{0}")]
     File(FileFault),
-    /// The first term is the file of code that isn't typed: the fault, and the number of the body that has it.
+    /// The first term is a code file whose code does not pass the verifier: the fault, and the number of the body that
+    /// has it.
     #[error("{0}")]
     Code(verifier::Fault, u16),
-    /// A term is no object: no tuple, or one without an element at the place of the key.
+    /// A term is not an object of the table: no tuple, or one without an element at the key position.
     #[error("a term is no object of the table")]
     TooSmall,
     /// A number among the options is outside its range.
@@ -117,8 +118,8 @@ impl From<BodyFault> for ToolFault {
     }
 }
 
-/// What stands behind the number of a fault of code: the instruction, and the body where that isn't the main one; the
-/// body alone where no instruction is at fault.
+/// Returns the arguments that follow the error code of a fault of code: the instruction, then the body unless it is the
+/// main one (0). Where no instruction is at fault, returns the body alone.
 fn code_arguments(pc: Option<u16>, body: u16) -> (Option<u64>, Option<u64>)
     ensures { option_to_list result.0 ++ option_to_list result.1 ≡ arguments_of_code pc body }
 {
@@ -128,7 +129,7 @@ fn code_arguments(pc: Option<u16>, body: u16) -> (Option<u64>, Option<u64>)
     }
 }
 
-/// The number of a body, where that isn't the main one.
+/// Returns the number of a body, or `None` for the main body (0), which the error line leaves out.
 fn routine_argument(body: u16) -> Option<u64>
     ensures { option_to_list result ≡ routine_of body }
 {
@@ -139,7 +140,7 @@ fn routine_argument(body: u16) -> Option<u64>
 }
 
 impl ToolFault {
-    /// The number of the refusal.
+    /// Returns the error code, as in `E16`.
     pub fn number(self) -> u8
         ensures { result ≡ number_of self }
     {
@@ -157,8 +158,8 @@ impl ToolFault {
         }
     }
 
-    /// What stands behind the number: a place in the text or in the file; an instruction and then its body, where that
-    /// isn't the main one, or a body alone; or a clause and then a variable.
+    /// Returns up to two arguments that follow the error code: a byte offset in the text or in the file; or an
+    /// instruction and its body (left out if it is the main one), or a body alone; or a clause and a variable.
     pub fn arguments(self) -> (Option<u64>, Option<u64>)
         ensures { option_to_list result.0 ++ option_to_list result.1 ≡ arguments_of self }
     {
@@ -180,9 +181,9 @@ impl ToolFault {
     }
 }
 
-/// Puts the line of a refusal at the end, as `error E16 0 3`, its number and its arguments, and answers the status
-/// with which the program ends: 3 for want of memory, 4 where reading or writing failed, else 2. What was there stays,
-/// also where no memory is given.
+/// Appends the error line to `out`, for example `error E16 0 3` (error code and arguments). Returns the exit status: 3
+/// if the fault is out of memory, 4 if reading or writing failed, else 2. Fails if an allocation fails; `out` is then
+/// unchanged.
 pub fn fault_line<A: Allocator + Copy>(
     alloc: A,
     fault: &ToolFault,
@@ -197,7 +198,8 @@ pub fn fault_line<A: Allocator + Copy>(
     Ok(status_of_number(fault.number()))
 }
 
-/// The status with which a refusal of this number ends the program.
+/// Returns the exit status for an error code: 3 for 1 (out of memory), 4 for 70 and above (reading or writing failed),
+/// else 2.
 fn status_of_number(number: u8) -> u8
     ensures { result ≡ status_by number }
 {
@@ -208,7 +210,7 @@ fn status_of_number(number: u8) -> u8
     }
 }
 
-/// The line of a refusal.
+/// Returns the error line of a fault: the error code, its arguments and a line feed.
 fn line_text<A: Allocator + Copy>(alloc: A, fault: ToolFault) -> Result<Vec<u8, A>, AllocError>
     ensures { IfOk result (λ v. v.items ≡ line_of fault) }
 {
@@ -221,7 +223,7 @@ fn line_text<A: Allocator + Copy>(alloc: A, fault: ToolFault) -> Result<Vec<u8, 
     Ok(line)
 }
 
-/// Puts a blank and the argument at the end, where there is one.
+/// Appends a blank and the argument, or nothing if it is `None`. `line` may have changed if an allocation fails.
 fn push_argument<A: Allocator + Copy>(
     alloc: A,
     line: &mut Vec<u8, A>,
@@ -237,7 +239,7 @@ fn push_argument<A: Allocator + Copy>(
     Ok(())
 }
 
-/// Puts a number's decimal digits at the end.
+/// Appends the decimal digits of a number.
 fn push_number<A: Allocator + Copy>(
     alloc: A,
     line: &mut Vec<u8, A>,

@@ -8,25 +8,25 @@ use crate::fault::ToolFault;
 use std::alloc::Allocator;
 use std::io::{self, ErrorKind, Read};
 
-/// How many bytes one read asks for.
+/// How many bytes one read requests at most.
 const READ_SIZE: usize = 65_536;
 
-/// Whether an input goes on.
+/// Whether the input has more to read.
 #[derive(Clone, Copy, Debug, PartialEq, Eq)]
 enum Progress {
     More,
     End,
 }
 
-/// The most reads of one input.
+/// Returns how many reads `read_whole` makes at most: 2^32 - 1.
 pub const fn most_reads() -> u32
     ensures { result ≡ 4294967295 }
 {
     u32::MAX
 }
 
-/// All that the reader gives, to its end. A reader that fails, or that has not ended after `most_reads` reads, is
-/// `ReadFailed`.
+/// Reads all that the reader gives, up to its end. Fails with `Memory` if an allocation fails, and with `ReadFailed` if
+/// the reader fails or has not ended after `most_reads` reads.
 pub fn read_whole<A: Allocator + Copy, R: Read>(
     alloc: A,
     reader: &mut R,
@@ -37,8 +37,9 @@ pub fn read_whole<A: Allocator + Copy, R: Read>(
     read_within(alloc, most_reads(), reader)
 }
 
-/// As `read_whole`, for a reader that ends within so many reads; the read that finds the end is one of them, and so is
-/// one that was interrupted. Any other reader is `ReadFailed`.
+/// Reads all that the reader gives, up to its end, with at most `limit` reads of 65,536 bytes each. The read that finds
+/// the end counts, and so does an interrupted one. Fails with `Memory` if an allocation fails, and with `ReadFailed` if
+/// the reader fails or does not end within the limit.
 pub fn read_within<A: Allocator + Copy, R: Read>(
     alloc: A,
     limit: u32,
@@ -58,7 +59,7 @@ pub fn read_within<A: Allocator + Copy, R: Read>(
     }
     Err(ToolFault::ReadFailed)
 }
-/// Room for one read.
+/// Allocates the buffer for one read, 65,536 bytes.
 fn read_buffer<A: Allocator + Copy>(alloc: A) -> Result<Vec<u8, A>, ToolFault>
     ensures room { IfOk result (λ v. length v.items ≡ 65536) }
     ensures failed { IfErr result (λ fault. fault ≡ ToolFault.Memory) }
@@ -67,7 +68,7 @@ fn read_buffer<A: Allocator + Copy>(alloc: A) -> Result<Vec<u8, A>, ToolFault>
     Ok(vec![in alloc; 0u8; size]?)
 }
 
-/// Reads once, and puts what was given at the end of the input.
+/// Reads once, and appends to `input` what the reader gave. An interrupted read appends nothing and returns `More`.
 fn read_part<A: Allocator, R: Read>(
     reader: &mut R,
     buffer: &mut [u8],
@@ -92,7 +93,8 @@ fn read_part<A: Allocator, R: Read>(
     }
 }
 
-/// Whether an input goes on after a read that gave nothing but this: one that was interrupted is tried again.
+/// Returns whether to go on after a read that failed: `More` if it was interrupted, so that it is tried again, else
+/// `ReadFailed`.
 fn progress_after(error: &io::Error) -> Result<Progress, ToolFault>
     ensures retried { error_kind error.now ≡ ErrorKind.Interrupted → result ≡ Ok Progress.More }
     ensures failed { error_kind error.now ≢ ErrorKind.Interrupted

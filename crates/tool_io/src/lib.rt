@@ -1,14 +1,14 @@
-//! What the commands of `ets_tool` read and write: an input's terms, lines of terms, and the line of a refusal.
+//! What the commands of `ets_tool` read and write: the terms of an input, lines of terms, and the error line.
 //!
-//! The contract: `read_input` answers the terms that a reader's bytes spell, at least one, and refuses any other input
-//! by what stands at the place of its fault, as does `read_script`, which takes none for an answer too; `text_of`,
-//! `first_of` and `next_of` do so term by term; lines are the canonical texts of terms, and what is gathered is written
-//! or kept; `fault_line` writes the number of a refusal and its arguments.
+//! The contract: `read_input` returns the terms that a reader's bytes spell, at least one. It rejects any other input
+//! with a fault that names what is wrong and the byte where it is. `read_script` does so too, but also accepts an input
+//! without terms. `text_of`, `first_of` and `next_of` do so term by term. Lines are the canonical texts of terms; what
+//! is gathered is either written or kept. `fault_line` appends the error code of a fault and its arguments.
 //!
 //! - `input`: the input, read whole, `specs/Input.antt`; `terms`: its terms, `specs/Terms.antt`.
-//! - `lines`: lines that are gathered and written, `specs/Lines.antt`.
-//! - `fault`: why a command ends early, and the line that says so, `specs/Fault.antt`; from faults of lower crates,
-//!   `specs/Wrapped.antt`. `numbers`: those of refusals that are the program's own.
+//! - `lines`: lines that are gathered and then written, `specs/Lines.antt`.
+//! - `fault`: why a command ends early, and the error line for it, `specs/Fault.antt`; conversion from faults of lower
+//!   crates, `specs/Wrapped.antt`. `numbers`: the program's own error codes.
 #![tactic(auto)]
 
 mod fault;

@@ -12,7 +12,7 @@ use term_text::{Form, write_as};
 /// How many bytes of output are gathered before they are written.
 const WRITE_SIZE: usize = 65_536;
 
-/// Puts the text of a term in such a form at the end, between these bytes. After an `Err` the lines are as before.
+/// Appends `before`, the text of the term in the given form, and `after`. If an allocation fails, `lines` is unchanged.
 pub fn put_line_in<A: Allocator + Copy>(
     form: Form,
     before: &[u8],
@@ -39,7 +39,7 @@ pub fn put_line_in<A: Allocator + Copy>(
     }
 }
 
-/// Puts the canonical text of a term at the end, between these bytes. After an `Err` the lines are as before.
+/// Appends `before`, the canonical text of the term, and `after`. If an allocation fails, `lines` is unchanged.
 pub fn put_line<A: Allocator + Copy>(
     before: &[u8],
     term: &Term<A>,
@@ -53,7 +53,8 @@ pub fn put_line<A: Allocator + Copy>(
     put_line_in(Form::Canonical, before, term, after, lines)
 }
 
-/// Writes the lines that were gathered before memory ran out, and answers how the command ends.
+/// Writes the lines that were gathered before memory ran out. Returns the fault with which the command ends: `Memory`,
+/// or `WriteFailed` if that write fails.
 pub fn out_of_memory<A: Allocator, W: Write>(writer: &mut W, lines: &mut Vec<u8, A>) -> ToolFault
     ensures { EndsBy (W.contents writer.old) (W.contents writer.new) lines.old.items result }
 {
@@ -63,7 +64,7 @@ pub fn out_of_memory<A: Allocator, W: Write>(writer: &mut W, lines: &mut Vec<u8,
     }
 }
 
-/// Writes the lines that were gathered where they are many.
+/// Writes the gathered lines if they have at least 65,536 bytes; otherwise keeps them. Fails with `WriteFailed`.
 pub fn write_if_many<A: Allocator, W: Write>(
     writer: &mut W,
     lines: &mut Vec<u8, A>,
@@ -78,7 +79,7 @@ pub fn write_if_many<A: Allocator, W: Write>(
     write_lines(writer, lines)
 }
 
-/// Writes the lines that were gathered, and has the writer pass on what it holds back.
+/// Writes the gathered lines, flushes the writer, and leaves `lines` empty. Fails with `WriteFailed`.
 pub fn write_lines<A: Allocator, W: Write>(
     writer: &mut W,
     lines: &mut Vec<u8, A>,

@@ -1,15 +1,15 @@
-//! The numbers of the refusals that are the program's own; those of texts, specifications, files, code and parts stand
-//! with their faults.
+//! The program's own error codes. Those of texts, specifications, files, code and parts are in the crates that define
+//! these faults.
 
-/// A session that isn't there, or has left.
+/// The session does not exist, or has left.
 pub const STRANGER_SESSION: u8 = 61;
-/// A continuation that isn't there, is spent, or is of another session or table.
+/// The continuation does not exist, is spent, or belongs to another session or table.
 pub const STRANGER_CONTINUATION: u8 = 62;
-/// A limit below 1.
+/// The limit is below 1.
 pub const BAD_LIMIT: u8 = 63;
-/// An input that has another number of terms than the command reads, or another kind; a term that is no command.
+/// The input has not the number or kind of terms that the command reads, or a term is not a command.
 pub const BAD_INPUT: u8 = 65;
-/// A reader that failed.
+/// The reader failed.
 pub const READ_FAILED: u8 = 70;
-/// A writer that failed.
+/// The writer failed.
 pub const WRITE_FAILED: u8 = 71;

@@ -12,7 +12,8 @@ use std::io::Read;
 use term_core::Term;
 use term_text::{TextFault, a_text_has_one_fault, next_term, read_terms};
 
-/// The terms that a reader gives, to its end: each with a dot behind it, and at least one.
+/// Reads to the end of the reader, and returns the terms that the bytes spell: each followed by a dot, at least one.
+/// Rejects an input without a term as a syntax error at its end.
 #[tactic(auto, using(crate::proofs::TermsLemmas::unread))]
 pub fn read_input<A: Allocator + Copy, R: Read>(
     alloc: A,
@@ -27,7 +28,7 @@ pub fn read_input<A: Allocator + Copy, R: Read>(
     some_terms_of(alloc, input.as_slice())
 }
 
-/// The terms that a reader gives, to its end: each with a dot behind it, maybe none.
+/// Reads to the end of the reader, and returns the terms that the bytes spell: each followed by a dot, maybe none.
 #[tactic(auto, using(crate::proofs::TermsLemmas::unspelled))]
 pub fn read_script<A: Allocator + Copy, R: Read>(
     alloc: A,
@@ -42,7 +43,7 @@ pub fn read_script<A: Allocator + Copy, R: Read>(
     terms_of(alloc, input.as_slice())
 }
 
-/// The terms of an input, at least one.
+/// Returns the terms of an input, at least one. An input without a term is a syntax error at its end.
 #[tactic(auto, using(crate::proofs::TermsLemmas::unspelled_is_unread))]
 fn some_terms_of<A: Allocator + Copy>(alloc: A, input: &[u8]) -> Result<Vec<Term<A>, A>, ToolFault>
     ensures ok { IfOk result (λ terms. HasTerms input.now terms.items) }
@@ -55,7 +56,7 @@ fn some_terms_of<A: Allocator + Copy>(alloc: A, input: &[u8]) -> Result<Vec<Term
     Ok(terms)
 }
 
-/// The terms of an input.
+/// Returns the terms of an input, maybe none.
 fn terms_of<A: Allocator + Copy>(alloc: A, input: &[u8]) -> Result<Vec<Term<A>, A>, ToolFault>
     ensures ok { IfOk result (λ terms. Spells input.now terms.items) }
     ensures refused { IfErr result (IsUnspelled input.now) }
@@ -66,7 +67,7 @@ fn terms_of<A: Allocator + Copy>(alloc: A, input: &[u8]) -> Result<Vec<Term<A>, 
     }
 }
 
-/// The text that an input is in UTF-8.
+/// Returns the input as text, or rejects it at the first byte that is not UTF-8.
 pub fn text_of(input: &[u8]) -> Result<&str, ToolFault>
     ensures ok { IfOk result (λ text. text.now ≡ input.now) }
     ensures refused { IfErr result (IsUnspelled input.now) }
@@ -78,8 +79,9 @@ pub fn text_of(input: &[u8]) -> Result<&str, ToolFault>
     }
 }
 
-/// The next term of what is left of a text, which has a dot behind it, and what is left then; none where no more than
-/// a gap stands there.
+/// Returns the next term of `rest`, which a dot follows, and what is left after the dot. Returns `None` if `rest` has
+/// nothing but white space and comments. `rest` has to be what is left of `text`, since the fault's place is a byte
+/// offset in `text`.
 pub fn next_of<'t, A: Allocator + Copy>(
     alloc: A,
     text: &str,
@@ -97,7 +99,8 @@ pub fn next_of<'t, A: Allocator + Copy>(
     }
 }
 
-/// The first term of a text, which has to have one, and what is left behind its dot.
+/// Returns the first term of a text, and what is left after its dot. A text without a term is a syntax error at its
+/// end.
 pub fn first_of<A: Allocator + Copy>(alloc: A, text: &str) -> Result<(Term<A>, &str), ToolFault>
     ensures ok { IfOk result (λ x. Sentence (chars text.now) x.0 (chars x.1.now)) }
     ensures refused { IfErr result (IsUnread text.now) }

@@ -7,11 +7,11 @@ use Rattle.term_text.specs.Text.Front.{at_first, behind}
 use Rattle.term_text.proofs.Nexts.{front_whole, front_join}
 use Rattle.tool_query.specs.Answers.{Report, AreLines, AnswersText, Puts, report_line}
 
--- what is answered on an object
+-- which answer a query gives on an object
 abbrev Relation : Type 1
 Relation = Datum → Option Datum → Type 0
 
--- the line of one more object
+-- the line on one more object
 lines_more : (r : Report) (R : Relation) (ds : List Datum) (d : Datum) (answer : Option Datum) (out : List ℕ) → AreLines r R ds out → R d answer → AreLines r R (ds ++ d ∷ []) (out ++ report_line r answer)
 lines_more r R [] d answer out h m = (answer, [], m, refl, rw (h, append-nil))
 lines_more r R (e ∷ ds) d answer out h m =
@@ -35,16 +35,16 @@ answered_more r R start now after lines more d a s p =
       answers = rw p.grown (lines_more r R a.done d p.answer lines a.answers p.answered);
     }
 
--- no more terms
+-- the end of the terms
 pub answered_all : (r : Report) (R : Relation) (start now lines : List ℕ) → Answered r R start now lines → Sentences now [] → AnswersText r R start lines
 answered_all r R start now lines a end =
     record { objects = a.done; spelled = rw append-nil at (front_whole a.front end); lines = a.answers }
 
--- what stands in front of the next term
+-- what comes before the next term
 pub answered_front : (r : Report) (R : Relation) (text start now lines : List ℕ) (ds : List Datum) → Front text ds start → (a : Answered r R start now lines) → Front text (ds ++ a.done) now
 answered_front r R text start now lines ds front a = front_join front a.front
 
--- ---- another relation that holds where this one does
+-- ---- another relation that is implied by this one
 
 lines_as : (r : Report) (R S : Relation) → ((d : Datum) (a : Option Datum) → R d a → S d a) → (ds : List Datum) (out : List ℕ) → AreLines r R ds out → AreLines r S ds out
 lines_as r R S so [] out h = h

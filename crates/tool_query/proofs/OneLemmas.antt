@@ -1,4 +1,4 @@
--- What is written is determined by what was read.
+-- The output is determined by the input.
 use Rattle.std.proofs.Common.{◌≡◌, ℕ, ◌++◌, List, [], ◌∷◌, Option, Some, sym, ◌∙◌, ap, subst}
 use Rattle.term_core.specs.Datum.{Datum}
 use Rattle.term_core.specs.Datum.Datum.{integer, atom, tuple, map, nil, cons, binary}
@@ -32,7 +32,7 @@ module _ (spells_one : SpellsOne) where
       let same = spells_one again.0 first.2.0 again.2.0 spelled again.2.1.spelled in
       once again.2.0 written a b (subst (λ (ts : List Datum). Writes ts (Some written) (Some a)) same first.2.2) again.2.2
 
--- a term asks one query
+-- a term means one query
 module _ (one_reading : HasOneReading) (one_code : OneCode) where
   pub meant_once : (d : Datum) (q r : Query) → (s : Specification) × (q ≡ Query.meant s) × IsRead d s → (s : Specification) × (r ≡ Query.meant s) × IsRead d s → q ≡ r
   meant_once d q r h k = h.1 ∙ ap Query.meant (one_reading d h.0 k.0 h.2.0 k.2.0) ∙ sym k.1

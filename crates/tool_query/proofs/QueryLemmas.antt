@@ -1,4 +1,4 @@
--- What a term asks, and why it asks nothing.
+-- Which query a term is, and why it is none.
 use Rattle.std.proofs.Common.{◌≡◌, ◌≢◌, ◌<◌, ◌⊎◌, inl, inr, ℕ, Option, List, [], ◌∷◌, length, get_or, is_some, false, refl, sym, ap, subst, ◌∙◌, arith, Bor}
 use Rattle.std.proofs.lemmas.Bool.{false≢true}
 use Rattle.std.proofs.lemmas.Option.{slice_get-get_or}
@@ -41,7 +41,7 @@ use Rattle.tool_query.specs.Code.{IsFileOf, IsNoBinary}
 use Rattle.tool_query.specs.Query.{Query, Answers, IsRead, IsQuery, IsLoaded, IsNoSpecification, IsUnloaded, IsNoQuery}
 use Rattle.tool_io.specs.Wrapped.{of_specification, of_file, of_code}
 
--- ---- refusals as those of the program
+-- ---- faults of lower crates as those of the program
 
 pub no_specification : (d : Datum) (f : SpecFault) → IsRefusal f d → IsNoSpecification d (of_specification f)
 no_specification d specification.Memory h = tt
@@ -88,9 +88,9 @@ no_code bytes p (code.Depth pc) b s h = faulty bytes p (code.Depth pc) b s h (λ
 no_code bytes p (code.Routine pc) b s h = faulty bytes p (code.Routine pc) b s h (λ e. absurd (cc))
 no_code bytes p code.Budget b s h = faulty bytes p code.Budget b s h (λ e. absurd (cc))
 
--- ---- a file that was written is loaded
+-- ---- a file that was written can be loaded
 
--- an instruction that may stand in code without routines is none of theirs
+-- in code without routines, an instruction that is allowed at its place is none that only routines use
 placed_plain : (p : Program) (i : Instr) → p.around ≡ alone → IsPlaced p i → IsUpTo plain_opcode i
 placed_plain p (instr.Invoke r target) is placed =
     let none : is_some (routine_at p r) ≡ false = ap is_some (no_routine p r is) in
@@ -138,9 +138,9 @@ loaded_answers one ends s bytes p h loaded object =
     let answer : run.0 ≡ answer_of (code_of s) object = ends (code_of s) object (alone_main (code_of s) (code_alone s)) h.typed run.1 run.0 run.3 in
     subst (λ (q : Program). Means s object (answer_of q object)) same (subst (Means s object) answer run.2)
 
--- ---- a term that is no binary asks by its specification
+-- ---- a term that is no binary is a query by its specification
 
--- a view of a binary
+-- the view of a binary
 abbrev IsBinaryView : {A : Type 0} → View A → Type 0
 IsBinaryView (view.Binary bs) = Unit {0}
 IsBinaryView v = ⊥
@@ -158,7 +158,7 @@ shown_no_binary (view.List ds tail) split other = cells_no_binary ds.now (tail_o
 shown_no_binary (view.Map es) split other = tt
 shown_no_binary (view.Binary bs) split other = absurd (other tt)
 
--- the term at which a view looks
+-- a term whose view is not that of a binary is no binary
 pub no_binary_at : {A : Type 0} (d : Datum) (v : View A) → shown v ≡ d → IsSplit v → ((bytes : Bor (List ℕ)) → v ≡ view.Binary bytes → ⊥) → IsNoBinary d
 no_binary_at d v is split other = subst IsNoBinary is (shown_no_binary v split (not_viewed v other))
   where

@@ -1,4 +1,4 @@
--- What is known of terms as what is known of an input.
+-- What is known of terms, as what is known of an input.
 use Rattle.std.proofs.Common.{◌≡◌, ◌<◌, inl, inr, ℕ, ◌-◌, Option, Some, None, List, [], ◌∷◌, length, refl, sym, ap, ◌∙◌, get_or, drop, take, arith}
 use Rattle.std.proofs.lemmas.List.{take_all}
 use Rattle.std.specs.Prelude.{IfSome}
@@ -18,7 +18,7 @@ use Rattle.tool_query.specs.Code.{StopsVerdict}
 use Rattle.tool_query.specs.Query.{Query, Answers, IsUnloaded}
 use Rattle.tool_query.specs.Run.{Asks, AsksNothing, WritesAnswers, StopsAnswers, Stops, OfItsTerms, StopsAt}
 
--- what is known of a writer that isn't called stays
+-- a writer that is not called keeps its contents
 pub kept : (known : Option (List ℕ)) → Keeps known known
 kept None = tt
 kept (Some bytes) = refl
@@ -27,11 +27,11 @@ kept (Some bytes) = refl
 pub of_terms : (known : Option (List ℕ)) (terms : List Datum) (P : List Datum → Type 0) → OfInput known (λ input. HasTerms input terms) → P terms → OfTerms known P
 of_terms known terms P h p = (h.0, h.1, (terms, h.2, p))
 
--- there are none
+-- there are no terms, so nothing is written
 pub unread : (known old : Option (List ℕ)) (f : ToolFault) (Stopped : List Datum → Type 0) → OfInput known (λ input. IsUnread input f) → Stops known old old f Stopped
 unread known old f Stopped h = inl (h, kept old)
 
--- what is said of an input that was read whole is known of what was left
+-- what is true of the terms of an input that was read whole is true of the terms that the reader gave
 pub of_its_terms : (known : Option (List ℕ)) (input : List ℕ) (P : List Datum → Type 0) → IfSome known (λ bytes. input ≡ bytes) → OfItsTerms input P → OfTerms known P
 of_its_terms known input P is t = (input, is, t)
 
@@ -40,12 +40,12 @@ stops_at known old new input f Stopped is h = elim h [ inl none ↦ inl ((input,
 
 -- ---- a query and objects
 
--- terms in front of which one stands
+-- terms split into the first and the others
 pub parted : (terms : List Datum) (first : Datum) → 0 < length terms → first ≡ get_or terms 0 first → terms ≡ first ∷ take (length terms - 1) (drop 1 terms)
 parted [] first some is = absurd (omega (arith, some))
 parted (d ∷ ds) first some is = ap (λ e. e ∷ ds) (sym is) ∙ ap (λ es. first ∷ es) (sym (take_all (length (d ∷ ds) - 1) ds (omega arith)))
 
--- terms of which one is read by itself
+-- terms of which the first was read separately
 pub has_terms : (input text rest : List ℕ) (first : Datum) (objects : List Datum) → text ≡ input → IsUtf8 text → Sentence (chars text) first rest → Sentences rest objects → HasTerms input (first ∷ objects)
 has_terms input text rest first objects is utf8 s more =
     let here : HasTerms text (first ∷ objects) = record { spelled = record { utf8 = utf8; sentences = sentence_first s more }; some = omega arith } in
@@ -69,18 +69,18 @@ pub report_failed : (r : Report) (input text rest lines : List ℕ) (first : Dat
 report_failed r input text rest lines first R old new f is utf8 s a failed =
     inr (first ∷ a.objects, has_terms input text rest first a.objects is utf8 s a.spelled, rw failed tt)
 
--- the text is refused, or has no term
+-- the text is rejected, or has no term
 pub report_unread : (input text : List ℕ) (old : Option (List ℕ)) (f : ToolFault) (Stopped : List Datum → Type 0) → text ≡ input → IsUnread text f → StopsAt input old old f Stopped
 report_unread input text old f Stopped is h = inl (rw is at h, kept old)
 
 pub report_unspelled : (input text : List ℕ) (old : Option (List ℕ)) (f : ToolFault) (Stopped : List Datum → Type 0) → text ≡ input → IsUnspelled text f → StopsAt input old old f Stopped
 report_unspelled input text old f Stopped is h = report_unread input text old f Stopped is (unspelled_is_unread text f h)
 
--- one term stands in front
+-- one term comes before what is left
 pub one_front : {text rest : List ℕ} {d : Datum} → Sentence text d rest → Front text (d ∷ []) rest
 one_front s = behind at_first s
 
--- the first term asks nothing
+-- the first term is no query
 pub asked_nothing : (r : Report) (terms : List Datum) (first : Datum) (objects : List Datum) (old : Option (List ℕ)) (f : ToolFault) → terms ≡ first ∷ objects → AsksNothing r first f → StopsAnswers r terms old old f
 asked_nothing r terms first objects old fault.Memory is h = inl (kept old)
 asked_nothing r terms first objects old fault.WriteFailed is h = tt
@@ -93,12 +93,12 @@ asked_nothing r terms first objects old fault.ReadFailed is h = (first, objects,
 asked_nothing r terms first objects old fault.TooSmall is h = (first, objects, is, h, kept old)
 asked_nothing r terms first objects old fault.BadOptions is h = (first, objects, is, h, kept old)
 
--- in an input
+-- the first term of an input is no query
 pub report_nothing : (r : Report) (input text rest : List ℕ) (first : Datum) (objects : List Datum) (old : Option (List ℕ)) (f : ToolFault) → text ≡ input → IsUtf8 text → Sentence (chars text) first rest → Sentences rest objects → AsksNothing r first f → StopsAt input old old f (λ terms. StopsAnswers r terms old old f)
 report_nothing r input text rest first objects old f is utf8 s more h =
     inr (first ∷ objects, has_terms input text rest first objects is utf8 s more, asked_nothing r (first ∷ objects) first objects old f refl h)
 
--- ---- a file that isn't loaded
+-- ---- a file that can't be loaded
 
 pub unloaded_stops : (terms : List Datum) (bytes : List ℕ) (old : Option (List ℕ)) (f : ToolFault) → terms ≡ binary bytes ∷ [] → IsUnloaded bytes f → StopsVerdict terms old old f
 unloaded_stops terms bytes old fault.Memory is h = kept old

@@ -20,7 +20,7 @@ ok_bytes : (f : Form) → text_in f ok_term ≡ codes "ok"
 unfolding text_as is_reserved encode
 ok_bytes f = refl
 
--- one more element, which is the last
+-- the text of the last element of a tuple
 last_item : (f : Form) (d : Datum) → encode_utf8_all (more_items_text f (item d no_items)) ≡ comma ∷ text_in f d
 last_item f d =
     more_items_bytes f d [] ∙ ap (λ (l : List ℕ). comma ∷ (text_in f d ++ l)) (no_more_items f) ∙ ap (λ (l : List ℕ). comma ∷ l) (append-nil (text_in f d))
@@ -34,7 +34,7 @@ outcome_line f d =
     ap (λ (l : List ℕ). l ++ 46 ∷ 10 ∷ []) (tuple_bytes f (item ok_term (item d no_items)) ∙ ap (λ (l : List ℕ). open_brace ∷ (l ++ close_brace ∷ [])) items)
     ∙ ap (λ (l : List ℕ). codes "{ok," ++ l) (append_assoc text (close_brace ∷ []) (46 ∷ 10 ∷ []))
 
--- the line where there is no answer
+-- the line if there is no answer
 pub false_line : (f : Form) → line_in f (outcome_of None) ≡ codes "false.\n"
 unfolding text_as is_reserved encode
 false_line f = refl
@@ -55,7 +55,7 @@ verdict_line budget depth =
     ∙ ap (λ (l : List ℕ). codes "{ok," ++ l)
     (append_assoc (first ++ (comma ∷ second)) (close_brace ∷ []) (46 ∷ 10 ∷ []) ∙ append_assoc first (comma ∷ second) (close_brace ∷ 46 ∷ 10 ∷ []))
 
--- its two parts are put at the end
+-- the two parts of a verdict's line are appended
 pub verdict_put : (old between new : List ℕ) (x y : Datum) (budget depth : ℕ) → x ≡ integer (pos budget) → y ≡ integer (pos depth)
     → between ≡ old ++ (codes "{ok," ++ (text_of x ++ codes ",")) → new ≡ between ++ (text_of y ++ codes "}.\n") → new ≡ old ++ line (verdict budget depth)
 verdict_put old between new x y budget depth x_is y_is first second =

@@ -8,12 +8,12 @@ use Rattle.term_text.specs.Text.{Sentences}
 use Rattle.term_text.specs.declared.write.Form.{Form}
 use Rattle.tool_io.specs.Lines.{line_in}
 
--- what is written of objects: the answers, or how each comes out, as texts in such a form
+-- what is written for objects, in the given form: the answers alone, or an outcome for each object
 pub data Report : Type 0 where
   answers : Form → Report
   outcomes : Form → Report
 
--- the line of an answer, nothing where there is none
+-- the line of an answer, or nothing if there is none
 abbrev pub answer_line : Form → Option Datum → List ℕ
 answer_line f None = []
 answer_line f (Some d) = line_in f d
@@ -25,24 +25,24 @@ ok_term = atom (codes "ok")
 abbrev pub false_term : Datum
 false_term = atom (codes "false")
 
--- {ok,A} for an answer A, false where there is none
+-- `{ok,A}` for an answer `A`, `false` if there is none
 abbrev pub outcome_of : Option Datum → Datum
 outcome_of None = false_term
 outcome_of (Some d) = tuple (item ok_term (item d no_items))
 
--- what is written of an object by its answer
+-- what is written for an object, given its answer
 abbrev pub report_line : Report → Option Datum → List ℕ
 report_line (Report.answers f) answer = answer_line f answer
 report_line (Report.outcomes f) answer = line_in f (outcome_of answer)
 
--- the lines on these objects, in their order, by what is answered on each
+-- the lines on these objects, in their order, by the answer on each
 abbrev pub AreLines : Report → (Datum → Option Datum → Type 0) → List Datum → List ℕ → Type 0
 AreLines r Answered [] out = out ≡ []
 AreLines r Answered (d ∷ ds) out =
     (answer : Option Datum) × (rest : List ℕ) × Answered d answer × AreLines r Answered ds rest
     × (out ≡ report_line r answer ++ rest)
 
--- the line on an object is put at the end
+-- the line on an object is appended
 pub record Puts (r : Report) (Answered : Datum → Option Datum → Type 0) (object : Datum)
     (old new : List ℕ) : Type 0 where
   pub answer : Option Datum
@@ -63,7 +63,7 @@ pub record WritesLines (r : Report) (Answered : Datum → Option Datum → Type 
   pub lines : AreLines r Answered objects out
   pub gained : Appends old new out
 
--- the writer gains the lines on a beginning of the objects
+-- the writer gains the lines on the first of the objects, maybe none
 pub record WritesBeginning (r : Report) (Answered : Datum → Option Datum → Type 0)
     (objects : List Datum) (old new : Option (List ℕ)) : Type 0 where
   pub front : List Datum

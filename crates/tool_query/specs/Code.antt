@@ -1,4 +1,4 @@
--- The file of a specification's code, and what is said of a file.
+-- The file of a specification's code, and what is written about a file.
 use Rattle.std.specs.Prelude.{ℕ, pos, ◌≡◌, ◌<◌, ◌⊎◌, Option, List, [], ◌∷◌, length}
 use Rattle.std.specs.Io.KnownBytes.{Appends, Keeps}
 use Rattle.term_core.specs.Datum.{Datum}
@@ -18,15 +18,15 @@ use Rattle.tool_io.specs.declared.fault.ToolFault.TheVariants as fault
 use Rattle.tool_query.specs.Answers.{ok_term}
 use Rattle.tool_query.specs.Query.{IsRead, IsLoaded, IsNoSpecification, IsUnloaded}
 
--- Bytes are the file of a specification's code, which is typed, and each run of it ends in what the specification
--- means.
+-- The bytes are the file of a specification's code. The code is typed, and each run of it ends with the answer that the
+-- specification means.
 pub record IsFileOf (s : Specification) (bytes : List ℕ) : Type 0 where
   pub spells : Spells bytes (code_of s)
   pub typed : IsTyped (code_of s)
   pub runs : (object : Datum) → (answer : Option Datum) × (n : ℕ) × Means s object answer
       × HasRun (code_of s) object n answer
 
--- the writer gains the file of the one term's specification, as a binary
+-- the terms are one, and the writer gains the file of its specification, as a binary
 pub record WritesFile (terms : List Datum) (old new : Option (List ℕ)) : Type 0 where
   pub first : Datum
   pub specification : Specification
@@ -36,7 +36,7 @@ pub record WritesFile (terms : List Datum) (old new : Option (List ℕ)) : Type 
   pub file : IsFileOf specification bytes
   pub gained : Appends old new (line (binary bytes))
 
--- why no file was written, and that nothing was; where the writer failed nothing is said of what it got
+-- why no file was written, and that nothing was; if the writer failed, its contents are unspecified
 abbrev pub StopsFile : List Datum → (old new : Option (List ℕ)) → ToolFault → Type 0
 StopsFile terms old new fault.WriteFailed = Unit {0}
 StopsFile terms old new fault.Memory = Keeps old new
@@ -44,12 +44,12 @@ StopsFile terms old new fault.BadInput = (1 < length terms) × Keeps old new
 StopsFile terms old new f =
     (first : Datum) × (terms ≡ first ∷ []) × IsNoSpecification first f × Keeps old new
 
--- {ok,Budget,Depth}
+-- the verdict on a file: `{ok,Budget,Depth}`
 abbrev pub verdict : ℕ → ℕ → Datum
 verdict budget depth =
     tuple (item ok_term (item (integer (pos budget)) (item (integer (pos depth)) no_items)))
 
--- the writer gains the budget and the depth of the typed code that the one term is the file of
+-- the terms are one code file, and the writer gains the budget and the depth of its code
 pub record WritesVerdict (terms : List Datum) (old new : Option (List ℕ)) : Type 0 where
   pub bytes : List ℕ
   pub code : Program
@@ -61,17 +61,17 @@ pub record WritesVerdict (terms : List Datum) (old new : Option (List ℕ)) : Ty
   pub depth_is : IsDepth code depth
   pub gained : Appends old new (line (verdict budget depth))
 
--- any other term than a binary
+-- a term that is not a binary
 abbrev pub IsNoBinary : Datum → Type 0
 IsNoBinary (binary bytes) = ⊥
 IsNoBinary d = Unit {0}
 
--- terms that are not one binary
+-- terms that are not exactly one binary
 abbrev pub IsNoFileTerm : List Datum → Type 0
 IsNoFileTerm terms =
     (1 < length terms) ⊎ ((first : Datum) × (terms ≡ first ∷ []) × IsNoBinary first)
 
--- why no verdict was written, and that nothing was; where the writer failed nothing is said of what it got
+-- why no verdict was written, and that nothing was; if the writer failed, its contents are unspecified
 abbrev pub StopsVerdict : List Datum → (old new : Option (List ℕ)) → ToolFault → Type 0
 StopsVerdict terms old new fault.WriteFailed = Unit {0}
 StopsVerdict terms old new fault.Memory = Keeps old new

@@ -1,4 +1,4 @@
--- What the first term of an input asks.
+-- Which query the first term of an input is.
 use Rattle.std.specs.Prelude.{ℕ, ◌≡◌, ◌≢◌, List, Option}
 use Rattle.term_core.specs.Datum.{Datum}
 use Rattle.term_core.specs.Datum.Datum.{binary}
@@ -18,36 +18,36 @@ use Rattle.verifier_types.specs.declared.fault.Fault.TheVariants as code
 use Rattle.tool_io.specs.declared.fault.ToolFault.{ToolFault}
 use Rattle.tool_io.specs.declared.fault.ToolFault.TheVariants as fault
 
--- what is asked of objects: what a specification means, or what code answers
+-- a query: a specification or code
 pub data Query : Type 0 where
   meant : Specification → Query
   coded : Program → Query
 
--- the answer on an object
+-- the answer of a query on an object
 abbrev pub Answers : Query → Datum → Option Datum → Type 0
 Answers (Query.meant s) object answer = Means s object answer
 Answers (Query.coded p) object answer = answer ≡ answer_of p object
 
--- a term is read as a specification
+-- a term is read as this specification, within its limits
 abbrev pub IsRead : Datum → Specification → Type 0
 IsRead d s = IsSpecification d s × IsWithinLimits s
 
--- bytes are the file of typed code
+-- the bytes are the file of this code, which is typed
 abbrev pub IsLoaded : List ℕ → Program → Type 0
 IsLoaded bytes p = Spells bytes p × IsTyped p
 
--- a binary asks by the code that it is the file of, any other term by the specification that it is read as
+-- a binary is a query by the code of which it is the file, any other term by the specification that it is read as
 abbrev pub IsQuery : Datum → Query → Type 0
 IsQuery (binary bytes) q = (p : Program) × (q ≡ Query.coded p) × IsLoaded bytes p
 IsQuery d q = (s : Specification) × (q ≡ Query.meant s) × IsRead d s
 
--- why a term is read as no specification, if not for want of memory
+-- why a term is not read as a specification: its fault, or out of memory
 abbrev pub IsNoSpecification : Datum → ToolFault → Type 0
 IsNoSpecification d fault.Memory = Unit {0}
 IsNoSpecification d (fault.Specification f) = (f ≢ specification.Memory) × IsRefusal f d
 IsNoSpecification d f = ⊥
 
--- why bytes are no file of typed code, if not for want of memory
+-- why bytes are not loaded as the file of typed code: a fault of the file or the code, or out of memory
 abbrev pub IsUnloaded : List ℕ → ToolFault → Type 0
 IsUnloaded bytes fault.Memory = Unit {0}
 IsUnloaded bytes (fault.File f) = (f ≢ file.Memory) × IsNoFile bytes f
@@ -55,7 +55,7 @@ IsUnloaded bytes (fault.Code f b) =
     (f ≢ code.Memory) × ((p : Program) × Spells bytes p × IsFirstFault p b f)
 IsUnloaded bytes f = ⊥
 
--- why a term asks nothing, if not for want of memory
+-- why a term is no query: its fault, or out of memory
 abbrev pub IsNoQuery : Datum → ToolFault → Type 0
 IsNoQuery (binary bytes) f = IsUnloaded bytes f
 IsNoQuery d f = IsNoSpecification d f

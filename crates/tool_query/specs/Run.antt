@@ -1,4 +1,4 @@
--- What is written for an input's terms, and how that ends early.
+-- What is written for the terms of an input, and how that ends early.
 use Rattle.std.specs.Prelude.{ℕ, ◌≡◌, ◌⊎◌, Option, List, ◌∷◌}
 use Rattle.std.specs.Io.KnownBytes.{Keeps}
 use Rattle.term_core.specs.Datum.{Datum}
@@ -10,24 +10,25 @@ use Rattle.tool_query.specs.Answers.{Report, WritesLines, WritesBeginning}
 use Rattle.tool_query.specs.Answers.Report.{answers, outcomes}
 use Rattle.tool_query.specs.Query.{Query, Answers, IsRead, IsQuery, IsNoSpecification, IsNoQuery}
 
--- what a first term asks: where answers are written a specification or a code file, where outcomes are a specification
+-- the query that a first term is: a specification or a code file if answers are written, a specification if outcomes
+-- are
 abbrev pub Asks : Report → Datum → Query → Type 0
 Asks (answers f) d q = IsQuery d q
 Asks (outcomes f) d q = (s : Specification) × (q ≡ Query.meant s) × IsRead d s
 
--- why it asks nothing, if not for want of memory
+-- why a first term is no query: its fault, or out of memory
 abbrev pub AsksNothing : Report → Datum → ToolFault → Type 0
 AsksNothing (answers form) d f = IsNoQuery d f
 AsksNothing (outcomes form) d f = IsNoSpecification d f
 
--- terms are a query and objects
+-- the terms are a query and the objects
 pub record IsAsked (r : Report) (terms : List Datum) (q : Query) (objects : List Datum) : Type 0
   where
     pub first : Datum
     pub whole : terms ≡ first ∷ objects
     pub asks : Asks r first q
 
--- the writer gains the lines of the query that the terms begin with, on the objects that follow it
+-- the writer gains the lines of the query, which is the first term, on the objects that follow it
 pub record WritesAnswers (r : Report) (terms : List Datum) (old new : Option (List ℕ)) : Type 0
   where
     pub query : Query
@@ -35,8 +36,8 @@ pub record WritesAnswers (r : Report) (terms : List Datum) (old new : Option (Li
     pub asked : IsAsked r terms query objects
     pub answered : WritesLines r (Answers query) objects old new
 
--- How answering ends early. Nothing is written but where memory runs out over the objects, and then the lines on a
--- beginning of them; where the writer failed nothing is said of what it got.
+-- How answering ends early. Nothing is written, except that the lines on the first objects may be if memory runs out
+-- over the objects. If the writer failed, its contents are unspecified.
 abbrev pub StopsAnswers : Report → List Datum → (old new : Option (List ℕ)) → ToolFault → Type 0
 StopsAnswers r terms old new fault.WriteFailed = Unit {0}
 StopsAnswers r terms old new fault.Memory =
@@ -46,15 +47,15 @@ StopsAnswers r terms old new f =
     (first : Datum) × (objects : List Datum) × (terms ≡ first ∷ objects) × AsksNothing r first f
     × Keeps old new
 
--- A command ends early: the input has no terms and nothing is written, or so by its terms.
+-- A command ends early: the input has no terms and nothing is written, or a fault occurs with its terms.
 abbrev pub Stops : (known old new : Option (List ℕ)) → ToolFault → (List Datum → Type 0) → Type 0
 Stops known old new f Stopped =
     (OfInput known (λ input. IsUnread input f) × Keeps old new) ⊎ OfTerms known Stopped
 
--- what holds of the terms of an input that is known
+-- `P` is true of the terms of this input
 abbrev pub OfItsTerms : List ℕ → (List Datum → Type 0) → Type 0
 OfItsTerms input P = (terms : List Datum) × HasTerms input terms × P terms
 
--- so of a command that ends early
+-- a command ends early on a known input: it has no terms and nothing is written, or a fault occurs with its terms
 abbrev pub StopsAt : (input : List ℕ) → (old new : Option (List ℕ)) → ToolFault → (List Datum → Type 0) → Type 0
 StopsAt input old new f Stopped = (IsUnread input f × Keeps old new) ⊎ OfItsTerms input Stopped

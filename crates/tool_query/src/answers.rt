@@ -1,4 +1,4 @@
-//! The lines of answers on objects, each of which is let go once it is answered.
+//! The lines of answers on objects, each of which is dropped once it has been answered.
 ghost use Rattle.std.specs.Prelude.{◌≡◌, ◌++◌, List, OnOk, OnErr, IfOk, IfErr, Option};
 ghost use Rattle.std.specs.Option.{option_copied};
 ghost use Rattle.std.specs.Str.{chars};
@@ -20,7 +20,8 @@ use term_text::Form;
 use tool_io::{ToolFault, next_of, put_line_in};
 use verifier::Verified;
 
-/// The lines of what code answers on the terms that are left of a text.
+/// Returns the lines of the answers of code on the terms of `rest`, what is left of `text`. Fails with the first fault
+/// of the text, or with `Memory`.
 pub(crate) fn run_lines<A: Allocator + Copy>(
     alloc: A,
     form: Form,
@@ -44,7 +45,7 @@ pub(crate) fn run_lines<A: Allocator + Copy>(
     }
 }
 
-/// Puts the line of what code answers on an object at the end, where there is one.
+/// Appends the line of the answer of code on an object, or nothing if there is no answer.
 fn put_run<A: Allocator + Copy>(
     alloc: A,
     form: Form,
@@ -59,7 +60,8 @@ fn put_run<A: Allocator + Copy>(
     put_answer(form, answer.as_ref(), lines)
 }
 
-/// The lines of how the terms that are left of a text come out.
+/// Returns the lines of the outcomes of the terms of `rest`, what is left of `text`. Fails with the first fault of the
+/// text, or with `Memory`.
 pub(crate) fn outcome_lines<A: Allocator + Copy>(
     alloc: A,
     form: Form,
@@ -83,7 +85,7 @@ pub(crate) fn outcome_lines<A: Allocator + Copy>(
     }
 }
 
-/// Puts the line that says how an object comes out at the end.
+/// Appends the line of the outcome of an object: `{ok,A}.` or `false.`.
 fn put_evaluated<A: Allocator + Copy>(
     alloc: A,
     form: Form,
@@ -98,7 +100,7 @@ fn put_evaluated<A: Allocator + Copy>(
     put_outcome(form, answer.as_ref(), lines)
 }
 
-/// Puts the line of an answer at the end, where there is one.
+/// Appends the line of an answer, or nothing if it is `None`. If an allocation fails, `lines` is unchanged.
 fn put_answer<A: Allocator + Copy>(
     form: Form,
     answer: Option<&Term<A>>,
@@ -114,7 +116,8 @@ fn put_answer<A: Allocator + Copy>(
     }
 }
 
-/// Puts the line that says how an object came out at the end.
+/// Appends the line of an outcome: `{ok,A}.` for an answer `A`, `false.` for `None`. If an allocation fails, `lines` is
+/// unchanged.
 #[tactic(auto, using(crate::proofs::TextLemmas::outcome_line, crate::proofs::TextLemmas::false_line))]
 fn put_outcome<A: Allocator + Copy>(
     form: Form,

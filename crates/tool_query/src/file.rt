@@ -1,4 +1,4 @@
-//! The commands that write code files, and that say what is in one.
+//! The commands that write code files and describe them.
 ghost use Rattle.std.specs.Prelude.{◌≡◌, ◌<◌, ◌++◌, ◌∷◌, [], length, OnOk, IfOk, IfErr};
 ghost use Rattle.term_core.specs.Datum.Datum.{binary};
 ghost use Rattle.tool_io.specs.Lines.{line};
@@ -14,8 +14,8 @@ use term_text::write_binary;
 use tool_io::{ToolFault, put_line, read_input, write_lines};
 use verifier::Verified;
 
-/// Reads one specification, to the reader's end, and writes the file of its code: a binary, a dot and a line feed. An
-/// input that is refused writes nothing, and so does want of memory.
+/// Reads one specification, up to the reader's end, and writes the file of its code: a binary, a dot and a line feed.
+/// Writes nothing if the input is rejected or memory runs out. An input of more than one term is `BadInput`.
 pub fn tool_compile<A: Allocator + Copy, R: Read, W: Write>(
     alloc: A,
     reader: &mut R,
@@ -31,9 +31,9 @@ pub fn tool_compile<A: Allocator + Copy, R: Read, W: Write>(
     compile_terms(alloc, terms.as_slice(), writer)
 }
 
-/// Reads one code file, which is a binary, to the reader's end, and writes `{ok,Budget,Depth}.`: how many instructions
-/// a run executes at most, and how deep its stack is at most. An input that is refused writes nothing, and so does want
-/// of memory.
+/// Reads one code file, which is a binary, up to the reader's end, and writes `{ok,Budget,Depth}.`: the maximal number
+/// of instructions that a run executes, and the maximal depth of its stack. Writes nothing if the input is rejected or
+/// memory runs out. An input of more than one term, or of no binary, is `BadInput`.
 pub fn tool_verify<A: Allocator + Copy, R: Read, W: Write>(
     alloc: A,
     reader: &mut R,
@@ -49,7 +49,7 @@ pub fn tool_verify<A: Allocator + Copy, R: Read, W: Write>(
     verify_terms(alloc, terms.as_slice(), writer)
 }
 
-/// The only one of these terms, of which there is one at least; of more it is `BadInput`.
+/// Returns the only one of these terms, of which there is at least one. Fails with `BadInput` if there are more.
 pub fn only<A: Allocator>(terms: &[Term<A>]) -> Result<&Term<A>, ToolFault>
     requires { 0 < length terms.now }
     ensures ok { IfOk result (λ first. terms.now ≡ first.now ∷ []) }
@@ -62,7 +62,7 @@ pub fn only<A: Allocator>(terms: &[Term<A>]) -> Result<&Term<A>, ToolFault>
     Ok(first)
 }
 
-/// Writes the file of the one term's code.
+/// Writes the file of the code of the only term.
 fn compile_terms<A: Allocator + Copy, W: Write>(
     alloc: A,
     terms: &[Term<A>],
@@ -85,7 +85,7 @@ fn compile_terms<A: Allocator + Copy, W: Write>(
     }
 }
 
-/// Puts the line of a file at the end.
+/// Appends the line of a file.
 fn put_file<A: Allocator + Copy>(file: &[u8], lines: &mut Vec<u8, A>) -> Result<(), AllocError>
     ensures { OnOk result (lines.new.items ≡ lines.old.items ++ line (binary file.now)) }
 {
@@ -93,7 +93,7 @@ fn put_file<A: Allocator + Copy>(file: &[u8], lines: &mut Vec<u8, A>) -> Result<
     lines.extend_from_slice(b".\n")
 }
 
-/// Writes the budget and the depth of the code that the one term is the file of.
+/// Writes the budget and the depth of the code of which the only term is the file.
 fn verify_terms<A: Allocator + Copy, W: Write>(
     alloc: A,
     terms: &[Term<A>],
@@ -116,7 +116,7 @@ fn verify_terms<A: Allocator + Copy, W: Write>(
     }
 }
 
-/// Puts the line of a verdict at the end.
+/// Appends the line of a verdict: `{ok,Budget,Depth}.`.
 #[tactic(auto, using(crate::proofs::TextLemmas::verdict_line))]
 fn put_verdict<A: Allocator + Copy>(
     budget: u32,

@@ -1,15 +1,15 @@
-//! The commands of `ets_tool` that ask queries: match specifications and code files over terms, from a reader to a
+//! The commands of `ets_tool` that run queries: match specifications and code files over terms, from a reader to a
 //! writer.
 //!
 //! The contract is that of `tool_run`, `tool_test`, `tool_compile` and `tool_verify`: what is written is the output for
-//! the terms that were read, by the grammar of specifications, their meaning, the format of code files and the typing
-//! of code; an input that is refused writes nothing, and why is said of it.
+//! the terms that were read, according to the grammar of specifications, their meaning, the format of code files and
+//! the typing of code. If the input is rejected, nothing is written, and the fault names the reason.
 //!
-//! - `query`: what the first term of an input asks, and code by way of its file, `specs/Query.antt`.
+//! - `query`: which query the first term of an input is, and its code by way of its file, `specs/Query.antt`.
 //! - `answers`: the lines of answers on objects, `specs/Answers.antt`; `run`: the commands that write them,
 //!   `specs/Run.antt`.
 //! - `file`: the commands `compile` and `verify`, `specs/Code.antt`.
-//! - `laws`: that what is written is a function of what was read, `specs/Laws.antt`.
+//! - `laws`: the output is a function of the input, `specs/Laws.antt`.
 #![tactic(auto)]
 
 mod answers;

@@ -1,4 +1,4 @@
-//! What the first term of an input asks.
+//! Which query the first term of an input is.
 ghost use Rattle.std.specs.Prelude.{◌≡◌, IfOk, IfErr};
 ghost use Rattle.term_core.specs.Datum.{Datum};
 ghost use Rattle.mcode.specs.Answer.{answer_of};
@@ -17,7 +17,7 @@ use term_core::{Term, View};
 use tool_io::ToolFault;
 use verifier::{Verified, faulty_code_is_untyped, verify};
 
-/// The specification that a term is read as.
+/// Reads a term as a specification, within its limits. Fails with the fault of the term or with `Memory`.
 pub fn specification_of<A: Allocator + Copy>(alloc: A, term: &Term<A>) -> Result<Spec<A>, ToolFault>
     ensures ok { IfOk result (λ s. IsRead term.now s) }
     ensures refused { IfErr result (IsNoSpecification term.now) }
@@ -28,7 +28,7 @@ pub fn specification_of<A: Allocator + Copy>(alloc: A, term: &Term<A>) -> Result
     }
 }
 
-/// The code that bytes are the file of, verified.
+/// Decodes the file of code and verifies the code. Fails with the fault of the file or of the code, or with `Memory`.
 pub fn load<A: Allocator + Copy>(alloc: A, bytes: &[u8]) -> Result<Verified<A>, ToolFault>
     ensures ok { IfOk result (λ code. IsLoaded bytes.now code) }
     ensures refused { IfErr result (IsUnloaded bytes.now) }
@@ -43,7 +43,7 @@ pub fn load<A: Allocator + Copy>(alloc: A, bytes: &[u8]) -> Result<Verified<A>, 
     }
 }
 
-/// The file of a specification's code.
+/// Returns the file of a specification's code.
 pub fn file_of<A: Allocator + Copy>(
     alloc: A,
     specification: &Spec<A>,
@@ -54,7 +54,7 @@ pub fn file_of<A: Allocator + Copy>(
     encode(alloc, code.code())
 }
 
-/// The code of a specification, by way of its file.
+/// Returns the code of a specification, encoded to its file and loaded from it. Fails only with `Memory`.
 pub(crate) fn code_from_file<A: Allocator + Copy>(
     alloc: A,
     specification: &Spec<A>,
@@ -78,8 +78,8 @@ pub(crate) fn code_from_file<A: Allocator + Copy>(
     }
 }
 
-/// The code that answers what a term asks: a binary the code that it is the file of, any other term the code of the
-/// specification that it is read as.
+/// Returns the code of the query that a term is: the code of which a binary is the file, or the code of the
+/// specification as which any other term is read.
 pub(crate) fn code_of_query<A: Allocator + Copy>(
     alloc: A,
     term: &Term<A>,

@@ -1,4 +1,4 @@
-//! The commands that answer objects.
+//! The commands that write the answers on objects.
 ghost use Rattle.std.specs.Prelude.{List, OnOk, IfOk, IfErr};
 ghost use Rattle.std.specs.Str.{chars};
 ghost use Rattle.term_core.specs.Datum.{Datum};
@@ -15,10 +15,10 @@ use term_core::Term;
 use term_text::Form;
 use tool_io::{ToolFault, first_of, next_of, read_whole, text_of, write_lines};
 
-/// Reads a specification or a code file, which is a binary, and objects, to the reader's end, and writes each answer:
-/// its text in such a form, a dot and a line feed, in the order of the objects. A specification is compiled, and its
-/// code goes through its file. An input that is refused writes nothing; where memory runs out while the objects are
-/// answered, the lines of a beginning of the objects are written.
+/// Reads a specification or a code file, which is a binary, and objects, up to the reader's end. Writes each answer in
+/// the order of the objects: its text in the given form, a dot and a line feed. A specification is compiled, encoded to
+/// its file and loaded from it. Writes nothing if the input is rejected or memory runs out, although the contract
+/// allows the lines of the first objects if memory runs out.
 pub fn tool_run<A: Allocator + Copy, R: Read, W: Write>(
     alloc: A,
     form: Form,
@@ -35,9 +35,9 @@ pub fn tool_run<A: Allocator + Copy, R: Read, W: Write>(
     run_input(alloc, form, input.as_slice(), writer)
 }
 
-/// Reads a specification and objects, to the reader's end, and writes a line for each object, by the plain evaluator:
-/// `{ok,A}.` where the specification answers `A`, and `false.` where it answers nothing. It ends early as `tool_run`
-/// does.
+/// Reads a specification and objects, up to the reader's end. Writes a line for each object, using the plain evaluator:
+/// `{ok,A}.` if the answer is `A`, and `false.` if there is none. Writes nothing if the input is rejected or memory
+/// runs out, although the contract allows the lines of the first objects if memory runs out.
 pub fn tool_test<A: Allocator + Copy, R: Read, W: Write>(
     alloc: A,
     form: Form,
@@ -54,8 +54,8 @@ pub fn tool_test<A: Allocator + Copy, R: Read, W: Write>(
     test_input(alloc, form, input.as_slice(), writer)
 }
 
-/// Writes what the first term of an input answers on the others. What is wrong in the text comes before what is wrong
-/// with the first term, and no line is written before the text has ended.
+/// Writes the answers of the query that is the first term of an input on its other terms. A fault of the text is
+/// reported before one of the first term. No line is written before the whole text has been read.
 fn run_input<A: Allocator + Copy, W: Write>(
     alloc: A,
     form: Form,
@@ -82,7 +82,8 @@ fn run_input<A: Allocator + Copy, W: Write>(
     }
 }
 
-/// Writes how the terms of an input behind the first come out by it, and ends early as `run_input` does.
+/// Writes the outcomes of the terms of an input after the first, by the specification that the first is. A fault of the
+/// text is reported before one of the first term. No line is written before the whole text has been read.
 fn test_input<A: Allocator + Copy, W: Write>(
     alloc: A,
     form: Form,
@@ -109,7 +110,7 @@ fn test_input<A: Allocator + Copy, W: Write>(
     }
 }
 
-/// Reads what is left of a text for what is wrong there.
+/// Reads the terms of `rest`, what is left of `text`, and drops them. Fails with the first fault of the text.
 fn read_on<A: Allocator + Copy>(alloc: A, text: &str, rest: &str) -> Result<(), ToolFault>
     ensures ok { OnOk result ((terms : List Datum) × Sentences (chars rest.now) terms) }
     ensures refused { (ds : List Datum) → Front (chars text.now) ds (chars rest.now)
@@ -125,5 +126,5 @@ fn read_on<A: Allocator + Copy>(alloc: A, text: &str, rest: &str) -> Result<(), 
     }
 }
 
-/// Lets a term go, so that a loop has not to prove how.
+/// Drops a term. The call keeps the drop's proof out of the loop.
 fn let_go<A: Allocator>(_term: Term<A>) {}

@@ -10,12 +10,12 @@ use Rattle.tool_io.specs.declared.fault.ToolFault.TheVariants as fault
 use Rattle.tool_io.proofs.LineLemmas.{appends_none, appends_join}
 use Rattle.tool_scan.specs.Answers.{StopsAnswers}
 
--- the lines of answers
+-- the lines of one more answer
 lines_more : (ds : List Datum) (d : Datum) → flat_map line (ds ++ d ∷ []) ≡ flat_map line ds ++ line d
 lines_more [] d = append-nil (line d)
 lines_more (e ∷ ds) d = ap (λ l. line e ++ l) (lines_more ds d) ∙ sym (append_assoc (line e) (flat_map line ds) (line d))
 
--- what was written, and what is gathered behind it, are the lines of these answers
+-- what was written, followed by what is gathered, is the lines of these answers
 pub record IsGathered (front : List Datum) (old now : Option (List ℕ)) (lines : List ℕ) : Type 0 where
   pub done : List ℕ
   pub gained : Appends old now done
@@ -24,7 +24,7 @@ pub record IsGathered (front : List Datum) (old now : Option (List ℕ)) (lines 
 pub gathered_none : (answers : List Datum) (old : Option (List ℕ)) → IsGathered (take 0 answers) old old []
 gathered_none answers old = record { done = []; gained = appends_none old; whole = refl }
 
--- one more line
+-- one more line is gathered
 pub gathered_more : (answers : List Datum) (i : ℕ) (d : Datum) (old now : Option (List ℕ)) (lines more : List ℕ) → i < length answers → d ≡ get_or answers i d
     → IsGathered (take i answers) old now lines → more ≡ lines ++ line d → IsGathered (take (i + 1) answers) old now more
 gathered_more answers i d old now lines more there is g grown = record {
@@ -36,7 +36,7 @@ gathered_more answers i d old now lines more there is g grown = record {
       ∙ (sym (lines_more (take i answers) d) ∙ ap (λ ds. flat_map line ds) (sym (take_more answers i d there ∙ ap (λ e. take i answers ++ e ∷ []) (sym is))))));
 }
 
--- lines are passed on
+-- gathered lines are passed to the writer
 pub gathered_passed : (front : List Datum) (old now later : Option (List ℕ)) (lines rest : List ℕ) → IsGathered front old now lines → Passes now later lines rest → IsGathered front old later rest
 gathered_passed front old now later lines rest g p = record {
   done = g.done ++ p.part;

@@ -1,4 +1,4 @@
--- The sessions of a scan at their table.
+-- The sessions of a scan, with their table.
 use Rattle.std.proofs.Common.{zero, suc, ◌≡◌, ℕ, ◌+◌, ◌<◌, refl, ap, sym, subst, ◌∙◌, arith, List, [], ◌∷◌, ◌++◌, length, slice_get}
 use Rattle.std.specs.Prelude.{All, Some, Option, get_or, map}
 use Rattle.std.specs.List.{AllZip}
@@ -42,12 +42,12 @@ module _ {M S : Type 0} (Sits : M → S → Type 0) where
   pub none_seated : (old : List M) → AreSeated Sits [] old old
   none_seated old = ([], sym (append-nil old), tt)
 
-  -- those who sit there, where nobody did before
+  -- one member for each session, if there was none before
   pub seated_all : (ss : List S) (old new now : List M) → AreSeated Sits ss old new → old ≡ [] → now ≡ new → AllZip Sits now ss
   seated_all ss old new now seated none same =
       subst (λ ms. AllZip Sits ms ss) (sym (same ∙ (seated.1 ∙ ap (λ l. l ++ seated.0) none))) seated.2
 
-  -- who sits there
+  -- the session of a member
   sitting : (ms : List M) (ss : List S) (i : ℕ) (m : M) → AllZip Sits ms ss → slice_get ms i ≡ Some m → (s : S) × (slice_get ss i ≡ Some s) × Sits m s
   sitting [] ss i m zip there = absurd (cc)
   sitting (n ∷ ms) [] i m zip there = absurd zip
@@ -60,7 +60,7 @@ module _ {M S : Type 0} (Sits : M → S → Type 0) where
 -- ---- what each session did
 
 module _ {T : Type 0} (is_ready : T → Type 0) (home : T → Home) (sees : T → Views → Type 0) (o : ScanOptions) (program : Program) (plan : Option (List Datum)) (objects : List Datum) (lists : List (List Datum)) where
-  -- a member whose session is new, by its number
+  -- a member with a new session of this number, which has seen nothing
   abbrev pub IsFresh : ℕ → T → Type 0
   IsFresh n m = ((home m).options ≡ table_of o) × ((home m).number ≡ n) × sees m (λ part. [])
 
@@ -84,14 +84,14 @@ module _ {T : Type 0} (is_ready : T → Type 0) (home : T → Home) (sees : T �
   all_scanned olds news many fresh each worker below =
       subst (IsScanned o program plan objects lists) (omega arith) (each_scanned 0 olds news (λ i m there. subst (λ n. IsFresh n m) (omega arith) (fresh i m there)) each worker (omega (arith, many, below)))
 
--- ---- sessions at their table
+-- ---- sessions with their table
 
--- sessions that were opened, each by itself
+-- each session was opened
 pub each_opened : {P A : Type 0} (o : Options) (gates : _) (sessions : List (Session P A))
     → AllOpened o gates sessions → All (λ (s : Session P A). IsOpened o gates s.number s.passes.items) sessions
 each_opened o gates sessions opened = λ k d within. opened k _ (slice_get-get_or sessions k d within)
 
--- members that are each of this table
+-- members of which each has this table's options and gates
 of_one_table : {X : Type 0} (home : X → Home) (o : Options) (gates : _) (xs : List X)
     → All (λ x. ((home x).options ≡ o) × ((home x).gates ≡ gates)) xs → AreOfOneTable (map home xs)
 of_one_table home o gates [] all = tt

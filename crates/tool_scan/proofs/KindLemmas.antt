@@ -7,7 +7,7 @@ use Rattle.tool_scan.specs.declared.options.ScanKind.{ScanKind}
 use Rattle.tool_scan.specs.declared.options.ScanKind.TheVariants as scan
 use Rattle.tool_scan.specs.Options.{kind_of}
 
--- another text
+-- the test of two different texts is false
 pub not_that : (a b : List ℕ) → (b ≡ a → ⊥) → bytes_eq a b ≡ false
 not_that a b other = by_test (bytes_eq a b) refl
   where
@@ -15,7 +15,7 @@ not_that a b other = by_test (bytes_eq a b) refl
     by_test true e = absurd (other (sym ((bytes_eq-Decides a b).0 e)))
     by_test false e = e
 
--- no kind of a scan's table is walked by key
+-- no kind of a scan's table is ordered
 pub unordered : (k : ScanKind) → is_ordered (kind_of k) ≡ false
 unordered scan.Set = refl
 unordered scan.Bag = refl

@@ -1,4 +1,4 @@
--- What the sessions of a scan do, each by itself.
+-- What each session of a scan does.
 use Rattle.std.proofs.Common.{suc, ◌≡◌, ◌≢◌, ℕ, ◌+◌, ◌<◌, refl, ap, sym, subst, ◌∙◌, arith, List, [], ◌∷◌, ◌++◌, length, map, take, get_or}
 use Rattle.std.specs.Prelude.{Bool, Some, Option, Result, Ok, Err, OnOk, All, ◌==◌, if◌then◌else◌, filter, true, false}
 use Rattle.std.proofs.lemmas.Bool.{ne_eqb, eq-eqb}
@@ -22,16 +22,16 @@ use Rattle.tool_scan.specs.Members.{AreMembers, EachPuts, EachPutsThose, EachSca
 use Rattle.tool_scan.specs.Options.{is_own, table_of, worker_of}
 use Rattle.tool_scan.specs.declared.options.ScanOptions.{ScanOptions}
 
--- the turn of an object that is put in
+-- the turn in which an object is inserted
 abbrev pub PutIn : Datum → Home → Views → Views → Type 0
 PutIn t h v w = TurnedByObject h t (Insert t) (Some (Replied Nothing)) v w
 
--- one more object behind others
+-- one more object is inserted after others
 puts_more : (h : Home) (ts : List Datum) (t : Datum) (v u w : Views) → Puts h ts v u → PutIn t h u w → Puts h (ts ++ t ∷ []) v w
 puts_more h [] t v u w same turned = (w, subst (λ x. PutIn t h x w) same turned, refl)
 puts_more h (s ∷ ts) t v u w puts turned = (puts.0, puts.1, puts_more h ts t puts.0 u w puts.2 turned)
 
--- ---- objects, each with a number beside it
+-- ---- objects, each with a number alongside
 
 those_push : (n m : ℕ) (t : Datum) (ms : List ℕ) (ts : List Datum) → length ms ≡ length ts → those_of n (ms ++ m ∷ []) (ts ++ t ∷ []) ≡ those_of n ms ts ++ (if m == n then t ∷ [] else [])
 those_push n m t [] [] same = refl
@@ -42,7 +42,7 @@ those_push n m t (k ∷ ms) (u ∷ ts) same =
     (λ own. rw own (ap (λ l. u ∷ l) (those_push n m t ms ts (omega (arith, same)))))
     (λ other. rw other (those_push n m t ms ts (omega (arith, same))))
 
--- one more object, where it has the number or not
+-- one more object, with this number or another
 pub those_more : (n : ℕ) (ms : List ℕ) (ts : List Datum) (i m default : ℕ) (t : Datum) → length ms ≡ length ts → i < length ts → m ≡ get_or ms i default → t ≡ get_or ts i t
     → those_of n (take (i + 1) ms) (take (i + 1) ts) ≡ those_of n (take i ms) (take i ts) ++ (if m == n then t ∷ [] else [])
 those_more n ms ts i m default t same within is_number is =
@@ -50,7 +50,7 @@ those_more n ms ts i m default t same within is_number is =
     ∙ ap (λ (l : List Datum). those_of n (take i ms ++ m ∷ []) l) (take_more ts i t within ∙ ap (λ (u : Datum). take i ts ++ u ∷ []) (sym is))
     ∙ those_push n m t (take i ms) (take i ts) (length-take-le i ms (omega (arith, same, within)) ∙ sym (length-take-le i ts (omega (arith, within))))
 
--- those of a worker are those that stand in its parts
+-- the objects with a worker's number are those that belong to its parts
 those_are : (o : ScanOptions) (n : ℕ) (ts : List Datum) → those_of n (map (worker_of o) ts) ts ≡ filter (is_own o n) ts
 those_are o n [] = refl
 those_are o n (t ∷ ts) = ap (λ l. if worker_of o t == n then t ∷ l else l) (those_are o n ts)
@@ -58,11 +58,11 @@ those_are o n (t ∷ ts) = ap (λ l. if worker_of o t == n then t ∷ l else l) 
 -- ---- one member
 
 module _ {T : Type 0} (is_ready : T → Type 0) (home : T → Home) (sees : T → Views → Type 0) where
-  -- nothing yet
+  -- no object yet
   pub nothing_put : (h : Home) (n : ℕ) (numbers : List ℕ) (objects : List Datum) (s : T) → Follows (sees s) (sees s) (Puts h (those_of n (take 0 numbers) (take 0 objects)))
   nothing_put h n numbers objects s v b = (v, b, refl)
 
-  -- one object more
+  -- one more object of this member
   pub one_put : (n : ℕ) (numbers : List ℕ) (objects : List Datum) (i m default : ℕ) (t : Datum) (old mid new : T) → length numbers ≡ length objects → i < length objects → m ≡ get_or numbers i default → t ≡ get_or objects i t → m ≡ n
       → home mid ≡ home old → Follows (sees old) (sees mid) (Puts (home old) (those_of n (take i numbers) (take i objects))) → Follows (sees mid) (sees new) (PutIn t (home mid))
       → Follows (sees old) (sees new) (Puts (home old) (those_of n (take (i + 1) numbers) (take (i + 1) objects)))
@@ -76,7 +76,7 @@ module _ {T : Type 0} (is_ready : T → Type 0) (home : T → Home) (sees : T �
             (puts_more (home old) (those_of n (take i numbers) (take i objects)) t v f.0 g.0 f.2 (subst (λ (h : Home). PutIn t h f.0 g.0) stays g.2)),
       )
 
-  -- one object that is another's
+  -- one object of another member
   pub none_put : (n : ℕ) (numbers : List ℕ) (objects : List Datum) (i m default : ℕ) (t : Datum) (old mid : T) → length numbers ≡ length objects → i < length objects → m ≡ get_or numbers i default → t ≡ get_or objects i t → m ≢ n
       → Follows (sees old) (sees mid) (Puts (home old) (those_of n (take i numbers) (take i objects)))
       → Follows (sees old) (sees mid) (Puts (home old) (those_of n (take (i + 1) numbers) (take (i + 1) objects)))
@@ -87,7 +87,7 @@ module _ {T : Type 0} (is_ready : T → Type 0) (home : T → Home) (sees : T �
       ∙ append-nil (those_of n (take i numbers) (take i objects)) in
       (f.0, f.1, subst (λ ts. Puts (home old) ts v f.0) (sym more) f.2)
 
-  -- one member, and the others behind it, where none was refused
+  -- one member and the members after it, if no insertion failed
   pub both_put : {X E : Type 0} (objects : List Datum) (numbers : List ℕ) (number : ℕ) (one : Result X E) (x : X) (others : Result X E) (old new last : T) (olds news lasts : List T) → last ≡ new → lasts ≡ news → one ≡ Ok x
       → OnOk one (Did is_ready home sees (λ h. Puts h (those_of number numbers objects)) old new) → OnOk others (EachPutsThose is_ready home sees objects numbers (number + 1) olds news)
       → OnOk others (EachPutsThose is_ready home sees objects numbers number (old ∷ olds) (last ∷ lasts))
@@ -98,14 +98,14 @@ module _ {T : Type 0} (is_ready : T → Type 0) (home : T → Home) (sees : T �
 -- ---- lists of members
 
 module _ {T : Type 0} where
-  -- what holds of each, told as something else
+  -- what is true of each member implies something else of each
   each_by : (P Q : ℕ → T → T → Type 0) (k : ℕ) (olds news : List T) → ((n : ℕ) (old new : T) → P n old new → Q n old new) → Each P k olds news → Each Q k olds news
   each_by P Q k [] [] by each = tt
   each_by P Q k (old ∷ olds) (new ∷ news) by each = (by k old new each.0, each_by P Q (k + 1) olds news by each.1)
   each_by P Q k [] (new ∷ news) by each = absurd each
   each_by P Q k (old ∷ olds) [] by each = absurd each
 
-  -- what each did first, and then
+  -- what each member did first, followed by what it did then
   each_both : (P Q R : ℕ → T → T → Type 0) (k : ℕ) (olds mids news : List T) → ((n : ℕ) (old mid new : T) → P n old mid → Q n mid new → R n old new) → Each P k olds mids → Each Q k mids news → Each R k olds news
   each_both P Q R k [] [] [] both first behind = tt
   each_both P Q R k (old ∷ olds) (mid ∷ mids) (new ∷ news) both first behind =
@@ -116,7 +116,7 @@ module _ {T : Type 0} where
   each_both P Q R k (old ∷ olds) (mid ∷ mids) [] both first behind = absurd behind
 
   module _ (is_ready : T → Type 0) (home : T → Home) (sees : T → Views → Type 0) (o : ScanOptions) where
-    -- what each did leaves them where they are
+    -- there are as many members afterwards as before
     each_long : (R : ℕ → Home → Views → Views → Type 0) (k : ℕ) (olds news : List T) → Each (λ n. Did is_ready home sees (R n)) k olds news → length news ≡ length olds
     each_long R k [] [] each = refl
     each_long R k (old ∷ olds) (new ∷ news) each = ap (λ n. suc n) (each_long R (k + 1) olds news each.1)
@@ -144,7 +144,7 @@ module _ {T : Type 0} where
     each_options R k [] (new ∷ news) each all = absurd each
     each_options R k (old ∷ olds) [] each all = absurd each
 
-    -- they are members of the scan still, and each put the objects of its parts in
+    -- the members are those of the scan still, and each inserted the objects of its parts
     pub members_put : (objects : List Datum) (numbers : List ℕ) (olds news : List T) → numbers ≡ map (worker_of o) objects → AreMembers is_ready home o olds → EachPutsThose is_ready home sees objects numbers 0 olds news → AreMembers is_ready home o news
     members_put objects numbers olds news is are each =
         let did : ℕ → Home → Views → Views → Type 0 = λ n h. Puts h (those_of n numbers objects) in
@@ -160,13 +160,13 @@ module _ {T : Type 0} where
         each_by (λ n. Did is_ready home sees (λ h. Puts h (those_of n numbers objects))) (λ n. Did is_ready home sees (λ h. Puts h (filter (is_own o n) objects))) 0 olds news
         (λ n old new did. subst (λ ts. Did is_ready home sees (λ h. Puts h ts) old new) (ap (λ ms. those_of n ms objects) is ∙ those_are o n objects) did) each
 
-    -- where none was refused, they are members still, and each put the objects of its parts in
+    -- if no insertion failed, the members are those of the scan still, and each inserted the objects of its parts
     pub on_ok_put : {X E : Type 0} (objects : List Datum) (numbers : List ℕ) (r : Result X E) (olds news : List T) → numbers ≡ map (worker_of o) objects → AreMembers is_ready home o olds → OnOk r (EachPutsThose is_ready home sees objects numbers 0 olds news)
         → OnOk r (AreMembers is_ready home o news) × OnOk r (EachPuts is_ready home sees o objects olds news)
     on_ok_put objects numbers (Ok x) olds news is are each = (members_put objects numbers olds news is are each, each_put objects numbers olds news is each)
     on_ok_put objects numbers (Err e) olds news is are each = (tt, tt)
 
-    -- the same with what holds of each before
+    -- what each member did, with what was true of it before
     each_with : (F : T → Type 0) (P : ℕ → T → T → Type 0) (k : ℕ) (olds news : List T) → All F olds → Each P k olds news → Each (λ n old new. F old × P n old new) k olds news
     each_with F P k [] [] all each = tt
     each_with F P k (old ∷ olds) (new ∷ news) all each =
@@ -183,7 +183,7 @@ module _ {T : Type 0} where
       abbrev program : Program
       program = query.code
 
-      -- objects that were put in, and then the walks
+      -- objects were inserted, and then the walks were made
       scans_then : (objects : List Datum) (workers n : ℕ) (old mid new : T) → workers ≡ o.workers → Did is_ready home sees (λ h. Puts h (filter (is_own o n) objects)) old mid
           → ((home mid).options ≡ table_of o) × answered workers n mid new → Did is_ready home sees (Scans o program (plan_of query (table_of o)) objects lists n) old new
       scans_then objects workers n old mid new many put walked = (

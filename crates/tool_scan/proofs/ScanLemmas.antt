@@ -26,16 +26,16 @@ no_specification o terms first objects old (fault.Code f b) is h = (first, objec
 no_specification o terms first objects old fault.BadOptions is h = (first, objects, is, h, kept old)
 no_specification o terms first objects old fault.ReadFailed is h = (first, objects, is, h, kept old)
 
--- a term behind it is no object
+-- a term after the first is no object
 pub no_object : (o : ScanOptions) (terms : List Datum) (first : Datum) (objects : List Datum) (s : Specification) (old : Option (List ℕ)) (f : ToolFault) → terms ≡ first ∷ objects → IsRead first s → (f ≡ fault.TooSmall) × HasNoObject o objects → StopsTerms o terms old old f
 no_object o terms first objects s old f is read h =
     rw h.0 (record { first = first; objects = objects; whole = is; specification = s; read = read; unfit = h.1 }, kept old)
 
--- there is no memory for the answers
+-- memory ran out before any answer was written
 pub no_answers : (o : ScanOptions) (terms : List Datum) (old : Option (List ℕ)) → StopsTerms o terms old old fault.Memory
 no_answers o terms old = inl (kept old)
 
--- writing them ends early
+-- writing the answers ends early
 pub answers_stopped : (o : ScanOptions) (terms : List Datum) (s : Specification) (objects answers : List Datum) (old new : Option (List ℕ)) (f : ToolFault) → IsAsked o terms s objects → AreAnswers o s objects answers → StopsAnswers answers old new f → StopsTerms o terms old new f
 answers_stopped o terms s objects answers old new fault.Memory asked are h =
     inr (record { specification = s; objects = objects; asked = asked; answers = answers; scanned = are; written = h })
@@ -49,12 +49,12 @@ answers_stopped o terms s objects answers old new (fault.Code f b) asked are h =
 answers_stopped o terms s objects answers old new fault.BadOptions asked are h = absurd h
 answers_stopped o terms s objects answers old new fault.ReadFailed asked are h = absurd h
 
--- ---- of an input
+-- ---- early ends by the input
 
 pub not_allowed : (o : ScanOptions) (known old : Option (List ℕ)) → ¬ (AreAllowed o) → StopsScan o known old old fault.BadOptions
 not_allowed o known old other = (other, kept old)
 
--- it has no terms
+-- the input has no terms
 pub input_unread : (o : ScanOptions) (known old : Option (List ℕ)) (f : ToolFault) → OfInput known (λ input. IsUnread input f) → StopsScan o known old old f
 input_unread o known old fault.BadOptions h = absurd h.2
 input_unread o known old fault.Memory h = unread known old fault.Memory (λ terms. StopsTerms o terms old old fault.Memory) h
@@ -67,7 +67,7 @@ input_unread o known old (fault.File f) h = unread known old (fault.File f) (λ 
 input_unread o known old (fault.Code f b) h = unread known old (fault.Code f b) (λ terms. StopsTerms o terms old old (fault.Code f b)) h
 input_unread o known old fault.ReadFailed h = unread known old fault.ReadFailed (λ terms. StopsTerms o terms old old fault.ReadFailed) h
 
--- it stops by its terms
+-- the scan stops because of its terms
 pub terms_stopped : (o : ScanOptions) (known old new : Option (List ℕ)) (terms : List Datum) (f : ToolFault) → OfInput known (λ input. HasTerms input terms) → StopsTerms o terms old new f → StopsScan o known old new f
 terms_stopped o known old new terms fault.BadOptions h stops = absurd stops.3
 terms_stopped o known old new terms fault.Memory h stops = inr (of_terms known terms (λ ts. StopsTerms o ts old new fault.Memory) h stops)

@@ -1,4 +1,4 @@
--- Objects with their numbers may be seen by other threads.
+-- Objects with their numbers may be shared with other threads.
 use denote.Ref.{NamedLft}
 use denote.RattleType.{RattleType}
 use denote.Param.Send.{IsSend, IsSync, Frees, sendable}

@@ -6,14 +6,15 @@ use Rattle.tool_io.specs.Lines.{line}
 use Rattle.tool_io.specs.declared.fault.ToolFault.{ToolFault}
 use Rattle.tool_io.specs.declared.fault.ToolFault.TheVariants as fault
 
--- the writer gains the lines of a beginning of answers
+-- the writer gains the lines of the first of the answers, maybe none
 pub record WritesFront (answers : List Datum) (old new : Option (List ℕ)) : Type 0 where
   pub front : List Datum
   pub rest : List Datum
   pub whole : answers ≡ front ++ rest
   pub gained : Appends old new (flat_map line front)
 
--- writing ends early for want of memory, or where the writer failed, and then nothing is said of what it got
+-- writing ends early: out of memory, with the lines of the first answers written; or the writer failed, and its
+-- contents are unspecified
 abbrev pub StopsAnswers : List Datum → (old new : Option (List ℕ)) → ToolFault → Type 0
 StopsAnswers answers old new fault.Memory = WritesFront answers old new
 StopsAnswers answers old new fault.WriteFailed = Unit {0}

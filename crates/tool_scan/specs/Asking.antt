@@ -12,11 +12,11 @@ use Rattle.tool_scan.specs.Members.{Scans}
 use Rattle.tool_scan.specs.Options.{table_of}
 use Rattle.tool_scan.specs.declared.options.ScanOptions.{ScanOptions}
 
--- behind members sits one more for each of these sessions
+-- one more member for each of these sessions follows the old members
 abbrev pub AreSeated : {M S : Type 0} → (M → S → Type 0) → List S → List M → List M → Type 0
 AreSeated {M} Sits sessions old new = (more : List M) × (new ≡ old ++ more) × AllZip Sits more sessions
 
--- A worker's session of a new table, which has seen nothing, did its part of a scan.
+-- A worker's session of a new table, which had seen nothing, did its part of a scan.
 pub record IsScanned (o : ScanOptions) (program : Program) (plan : Option (List Datum)) (objects : List Datum) (lists : List (List Datum)) (worker : ℕ) : Type 0 where
   pub home : Home
   pub opened : home.options ≡ table_of o
@@ -24,7 +24,8 @@ pub record IsScanned (o : ScanOptions) (program : Program) (plan : Option (List 
   pub last : Views
   pub scans : Scans o program plan objects lists worker home (λ part. []) last
 
--- Answers of a scan by a specification: those of each part, by the session of its worker, one part behind the other.
+-- Answers of a scan by a specification: those of each part, in ascending order of the parts, by the session of the
+-- part's worker.
 pub record AreAnswers (o : ScanOptions) (s : Specification) (objects answers : List Datum) : Type 0 where
   pub program : Program
   pub means : (object : Datum) → Means s object (answer_of program object)

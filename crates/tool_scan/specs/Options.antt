@@ -1,4 +1,4 @@
--- What a scan is made with, and which of its sessions has a part.
+-- The options of a scan, and which of its sessions has a part.
 use Rattle.std.specs.Prelude.{ℕ, ◌≡◌, ◌%◌, Bool, true, false, if◌then◌else◌, codes, Contains, IsTrue, List, [], ◌∷◌, Result, Ok, Err}
 use Rattle.std.specs.List.{list_any}
 use Rattle.std.specs.Str.{bytes_eq}
@@ -26,18 +26,18 @@ kind_named name =
     if bytes_eq (codes "bag") name then scan.Bag
     else (if bytes_eq (codes "duplicate_bag") name then scan.DuplicateBag else scan.Set)
 
--- a text is read as the kind that it names, and refused where it names none
+-- a text is read as the kind that it names, and rejected if it names none
 abbrev pub IsKindText : {E : Type 0} → List ℕ → Result ScanKind E → Type 0
 IsKindText text (Ok k) = (is_kind text ≡ true) × (k ≡ kind_named text)
 IsKindText text (Err e) = is_kind text ≡ false
 
--- the table's kind
+-- the kind of the table
 abbrev pub kind_of : ScanKind → TableKind
 kind_of scan.Set = table.Set
 kind_of scan.Bag = table.Bag
 kind_of scan.DuplicateBag = table.DuplicateBag
 
--- the table is opened with a session for each worker
+-- the table's options, with one session for each worker
 abbrev pub table_of : ScanOptions → Options
 table_of o = record {
   name = 0;
@@ -62,10 +62,10 @@ IsFit o t = IsTrue (is_object (scan_settings o) t)
 abbrev pub HasNoObject : ScanOptions → List Datum → Type 0
 HasNoObject o terms = (t : Datum) × Contains terms t × ¬ (IsFit o t)
 
--- the worker in whose parts the object stands
+-- the worker to which the object's part belongs
 abbrev pub worker_of : ScanOptions → Datum → ℕ
 worker_of o t = part_of (scan_settings o) (key_of (scan_settings o) t) % o.workers
 
--- the object stands in one of the worker's parts: those whose number is the worker's, modulo the workers
+-- whether the object is in one of the worker's parts: those whose number modulo the number of workers is the worker's
 abbrev pub is_own : ScanOptions → ℕ → Datum → Bool
 is_own o worker t = is_share o.workers worker (part_of (scan_settings o) (key_of (scan_settings o) t))

@@ -9,7 +9,7 @@ use std::io::Write;
 use term_core::Term;
 use tool_io::{ToolFault, out_of_memory, put_line, write_if_many, write_lines};
 
-/// Writes these answers, a line each.
+/// Writes these answers, one line each. If memory runs out, the lines of the first answers are written.
 pub(crate) fn write_answers<A: Allocator + Copy, W: Write>(
     alloc: A,
     answers: &[Term<A>],

@@ -19,7 +19,7 @@ use tables::{At, Session, Table};
 use term_core::Term;
 use walks::Query;
 
-/// Puts a session at its table behind others.
+/// Appends a member: the session with its table.
 fn seat_one<'t, R: Wait, P: Part<A> + Drop, A: Allocator>(
     rt: &'t R,
     table: &'t Table<P, A>,
@@ -36,7 +36,7 @@ fn seat_one<'t, R: Wait, P: Part<A> + Drop, A: Allocator>(
     }
 }
 
-/// Puts sessions at their table behind others.
+/// Appends a member for each session: the session with its table.
 fn seat_all<'t, R: Wait, P: Part<A> + Drop, A: Allocator>(
     rt: &'t R,
     table: &'t Table<P, A>,
@@ -56,7 +56,7 @@ fn seat_all<'t, R: Wait, P: Part<A> + Drop, A: Allocator>(
     }
 }
 
-/// What the sessions of a table are answered, once they have put objects in.
+/// Has the sessions of a table insert the objects and walk the table. Returns the answers.
 fn ask<R: Threads + Wait + Sync, P: Part<A> + Drop + Send, A: Allocator + Copy + Send + Sync>(
     rt: &R,
     alloc: A,
@@ -80,7 +80,7 @@ fn ask<R: Threads + Wait + Sync, P: Part<A> + Drop + Send, A: Allocator + Copy +
     scan_members(rt, alloc, options, members.as_mut_slice(), objects, query)
 }
 
-/// A new table for a scan, and its sessions.
+/// Opens a new table for a scan, with its sessions.
 fn opened<P: Part<A> + Drop, A: Allocator + Copy>(
     alloc: A,
     options: ScanOptions,
@@ -97,7 +97,7 @@ fn opened<P: Part<A> + Drop, A: Allocator + Copy>(
     }
 }
 
-/// What a specification is answered by a new table, once the objects are put in.
+/// Opens a new table, inserts the objects, and returns the answers of a specification on them.
 pub(crate) fn answers_on<
     R: Threads + Wait + Sync,
     P: Part<A> + Drop + Send,

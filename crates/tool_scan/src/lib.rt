@@ -1,11 +1,11 @@
-//! The command `scan` of `ets_tool`: objects are put into a table whose parts have gates, and a specification is asked of
-//! them by sessions on threads of their own.
+//! The command `scan` of `ets_tool`: objects are inserted into a table whose parts have gates, and sessions on threads
+//! of their own query it by a specification.
 //!
-//! The contract is that of `tool_scan`: an input that is refused writes nothing, and why is said of it; else what is
-//! written are the lines of answers that sessions got, each of which put the objects of its parts in, in their order,
-//! and then walked through these parts (`specs/Scan.antt`).
+//! The contract is that of `tool_scan`: if the input is rejected, nothing is written, and the fault names the reason.
+//! Otherwise the lines of the answers are written. Each session inserted the objects of its parts, in their order, and
+//! then walked through these parts (`specs/Scan.antt`).
 //!
-//! - `options`: what the table is opened with, `specs/Options.antt`.
+//! - `options`: the options of a scan, `specs/Options.antt`.
 //! - `objects`: which terms are objects. `members`: what the sessions do, `specs/Members.antt`. `asking`: the table and
 //!   its sessions.
 //! - `answers`: the lines of answers. `scan`: the command.

@@ -23,7 +23,7 @@ use tables::{Turns, insert, part_of_key};
 use term_core::Term;
 use walks::Query;
 
-/// The number of the member in whose parts an object stands.
+/// Returns the number of the member to which the object's part belongs.
 fn member_of<A: Allocator>(options: ScanOptions, object: &Term<A>) -> u8
     requires allowed { AreAllowed options }
     requires fit { IsFit options object.now }
@@ -36,7 +36,7 @@ fn member_of<A: Allocator>(options: ScanOptions, object: &Term<A>) -> u8
     }
 }
 
-/// One member puts an object in.
+/// Has a member insert a copy of an object.
 fn put_object<A: Allocator, T: Turns<A>>(turns: &mut T, object: &Term<A>) -> Result<(), AllocError>
     requires { T.is_ready turns.old }
     ensures ready { T.is_ready turns.new }
@@ -51,7 +51,7 @@ fn put_object<A: Allocator, T: Turns<A>>(turns: &mut T, object: &Term<A>) -> Res
     }
 }
 
-/// Of each object the number of the member in whose parts it stands.
+/// Returns, for each object, the number of the member to which the object's part belongs.
 fn members_of<A: Allocator + Copy>(
     alloc: A,
     options: ScanOptions,
@@ -69,15 +69,16 @@ fn members_of<A: Allocator + Copy>(
     Ok(numbers)
 }
 
-/// Objects, and of each the number of the member in whose parts it stands.
+/// Objects, and for each the number of the member to which its part belongs.
 #[derive(Drop)]
 struct Shares<'a, A: Allocator> {
     objects: &'a [Term<A>],
     numbers: &'a [u8],
 }
 
-/// One member puts the objects in that stand in its own parts, in their order.
-// The handle isn't used: what a closure captures is found to be sendable where its type parameters are among that.
+/// Has one member insert the objects with its number, in their order.
+// The handle is not used: a closure is found sendable only if its captures' type parameters are among those of the
+// function.
 fn put_own<R, A: Allocator, T: Turns<A>>(
     _rt: &R,
     number: u8,
@@ -99,8 +100,8 @@ fn put_own<R, A: Allocator, T: Turns<A>>(
     Ok(())
 }
 
-/// One member puts the objects of its parts in on a thread of its own, and the others do so each on another.
-// A function of its own, so that what the closures require is what it is given.
+/// Has the first member insert the objects of its parts on a thread of its own, and the others do so on other threads.
+// A function of its own, so that its preconditions are what the closures require.
 #[cycle(puts)]
 fn put_both<R: Threads + Sync, A: Allocator + Copy + Send + Sync, T: Turns<A> + Send>(
     rt: &R,
@@ -130,7 +131,7 @@ fn put_both<R: Threads + Sync, A: Allocator + Copy + Send + Sync, T: Turns<A> + 
     others
 }
 
-/// Each member puts the objects of its parts in, on a thread of its own, the first one as the member of this number.
+/// Has each member insert the objects of its parts on a thread of its own. `number` is that of the first member.
 #[cycle(puts)]
 fn put_each<R: Threads + Sync, A: Allocator + Copy + Send + Sync, T: Turns<A> + Send>(
     rt: &R,
@@ -149,7 +150,7 @@ fn put_each<R: Threads + Sync, A: Allocator + Copy + Send + Sync, T: Turns<A> + 
     }
 }
 
-/// The members put objects in, in their order, each those that stand in its own parts, on a thread of its own.
+/// Has each member insert the objects of its parts, in their order, on a thread of its own.
 fn put_objects<R: Threads + Sync, A: Allocator + Copy + Send + Sync, T: Turns<A> + Send>(
     rt: &R,
     alloc: A,
@@ -171,8 +172,8 @@ fn put_objects<R: Threads + Sync, A: Allocator + Copy + Send + Sync, T: Turns<A>
     put_each(rt, 0, members, &shares)
 }
 
-/// On a thread of its own each member puts in the objects that stand in its own parts, in their order; then each walks
-/// through these parts, again on a thread of its own. These are the answers, in the order of the parts.
+/// Has each member insert the objects of its parts, in their order, on a thread of its own. Then each walks through
+/// these parts, again on a thread of its own. Returns the answers in the order of the parts.
 pub(crate) fn scan_members<
     R: Threads + Wait + Sync,
     A: Allocator + Copy + Send + Sync,

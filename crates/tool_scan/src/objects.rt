@@ -8,7 +8,7 @@ use std::alloc::Allocator;
 use term_core::Term;
 use tool_io::ToolFault;
 
-/// Whether these terms are objects of the table; else they are refused.
+/// Checks that all these terms are objects of the table. Fails with `TooSmall` if one is not.
 pub(crate) fn check_objects<A: Allocator>(
     options: ScanOptions,
     terms: &[Term<A>],

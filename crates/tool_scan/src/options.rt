@@ -1,4 +1,4 @@
-//! How objects are scanned.
+//! The options of a scan.
 ghost use Rattle.std.specs.Prelude.{◌≡◌};
 ghost use Rattle.tool_scan.specs.Options.{kind_of, table_of, IsKindText};
 
@@ -6,14 +6,14 @@ use part_core::TableKind;
 use std::str::FromStr;
 use tables::Options;
 
-/// The kind of the table that objects are put into: any but one that is walked by key.
+/// The kind of the table into which objects are inserted: any but an ordered set.
 #[derive(Clone, Copy, Debug, PartialEq, Eq)]
 pub enum ScanKind {
-    /// One object a key, the last.
+    /// One object for each key, the last inserted.
     Set,
-    /// Objects of a key that differ.
+    /// Different objects may have the same key.
     Bag,
-    /// All objects of a key, equal ones too.
+    /// All objects of a key, also equal ones.
     DuplicateBag,
 }
 
@@ -29,11 +29,11 @@ impl ScanKind {
     }
 }
 
-/// A text is the name of no kind of a scan's table.
+/// The text does not name a kind of table that `scan` supports.
 #[derive(Clone, Copy, Debug, PartialEq, Eq)]
 pub struct UnknownKind;
 
-/// Reads `set`, `bag` or `duplicate_bag`.
+/// Reads `set`, `bag` or `duplicate_bag`. Fails with `UnknownKind` for any other text.
 impl FromStr for ScanKind {
     type Err = UnknownKind;
 
@@ -49,20 +49,20 @@ impl FromStr for ScanKind {
     }
 }
 
-/// How objects are scanned.
+/// The options of a scan.
 #[derive(Clone, Copy, Debug, PartialEq, Eq)]
 pub struct ScanOptions {
     /// The kind of the table.
     pub kind: ScanKind,
-    /// The place of the key in an object, counted from 1: 1 to 65,535.
+    /// The position of the key in an object, counted from 1: 1 to 65,535.
     pub keypos: u16,
     /// How many parts the keys are spread over: 1 to 64.
     pub parts: u8,
-    /// How many sessions there are, each with a thread of its own: 1 to 16.
+    /// The number of sessions, each with a thread of its own: 1 to 16.
     pub workers: u8,
 }
 
-/// What the table is opened with.
+/// Returns the options with which the table is opened.
 pub(crate) fn table_options(options: ScanOptions) -> Options
     ensures { result ≡ table_of options }
 {

@@ -18,7 +18,7 @@ use term_core::Term;
 use tool_io::{ToolFault, read_input};
 use tool_query::specification_of;
 
-/// Writes what the first term answers on the others, once they are put into a table.
+/// Inserts the terms after the first into a table, and writes the answers of the first term on them.
 fn scan_terms<
     H: Threads + Wait + Sync,
     P: Part<A> + Drop + Send,
@@ -50,11 +50,13 @@ fn scan_terms<
     }
 }
 
-/// Reads a specification and objects, to the reader's end, puts the objects into a table of parts `P` in their order,
-/// asks the specification of it by sessions on threads of their own, and writes each answer: its canonical text, a dot
-/// and a line feed, part by part. Options outside their ranges are refused before anything is read; an input that is
-/// refused writes nothing, the first term before the others, of which each has to be an object. Where memory runs out
-/// while lines are made of the answers, those of a beginning of the answers are written.
+/// Reads a specification and objects, up to the reader's end. Inserts the objects into a table of parts `P` in their
+/// order, and has sessions on threads of their own walk it by the specification. Writes each answer, part by part: its
+/// canonical text, a dot and a line feed.
+///
+/// Fails with `BadOptions` before anything is read if an option is outside its range. Writes nothing if the input is
+/// rejected; the first term is checked before the others, each of which has to be an object. If memory runs out while
+/// lines are made of the answers, the lines of the first answers are written.
 pub fn tool_scan<
     H: Threads + Wait + Sync,
     P: Part<A> + Drop + Send,

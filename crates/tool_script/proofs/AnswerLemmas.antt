@@ -1,4 +1,4 @@
--- What a shell answers lines in which commands stand whole.
+-- The output of a shell for lines that contain whole commands.
 use Rattle.std.proofs.Common.{◌≡◌, ◌∙◌, ℕ, List, [], ◌∷◌, ◌++◌, false, flat_map, refl, sym, ap, subst}
 use Rattle.std.proofs.lemmas.List.Concat.{flat_map-append}
 use Rattle.term_core.specs.Datum.{Datum}
@@ -15,7 +15,7 @@ use Rattle.tool_script.specs.Shell.{Replies, Looked, Goes}
 use Rattle.tool_script.specs.Shell.Looked.{spelled, cut_short, refused}
 use Rattle.tool_script.specs.Shell.Goes.{ended, passed, goes_on, looked_at, given_up}
 
--- replies to terms, and to those behind them
+-- replies to terms, followed by replies to the terms after them
 replies_join : (st mid : ScriptState) (ds es rs qs : List Datum) → Replies st ds rs mid → AreReplies mid es qs → AreReplies st (ds ++ es) (rs ++ qs)
 replies_join st mid [] es [] qs is rest = subst (λ (s : ScriptState). AreReplies s es qs) (sym is) rest
 replies_join st mid [] es (r ∷ rs) qs is rest = absurd is
@@ -37,7 +37,7 @@ never_gone e = cc
 never_given : effect.GivesUp ≡ effect.LooksAt → ⊥
 never_given e = cc
 
--- what a line comes to in which commands stand whole
+-- the output for a line that contains whole commands
 pub record Answers (st : ScriptState) (ds : List Datum) (now left : List ℕ) (behind : ScriptState) : Type 0 where
   pub replies : List Datum
   pub replied : Replies st ds replies behind
@@ -54,7 +54,7 @@ looked_whole once st behind text now left ds spells (spelled replies found repli
 looked_whole once st behind text now left ds spells (cut_short not_given wrong) = absurd (wrong.unspelled ds spells)
 looked_whole once st behind text now left ds spells (refused wrong why) = absurd (wrong.unspelled ds spells)
 
--- and what is answered behind it
+-- the output for such a line and for the rest of the input after it
 pub record LineAnswers (st : ScriptState) (ds : List Datum) (rest out : List ℕ) (after : ScriptState) : Type 0 where
   pub replies : List Datum
   pub behind : ScriptState
@@ -95,7 +95,7 @@ line_answers once st after begun input rest out l ds none first behind looks spe
 at_end : (e : Effect) (begun input : List ℕ) → begun ≡ [] → input ≡ [] → effect_of begun (first_line input) ≡ e → (effect.Passes ≡ e → ⊥) → ⊥
 at_end e begun input none empty is apart = apart (sym (ap (λ b. effect_of b (first_line input)) none ∙ ap (λ bytes. effect_of [] (first_line bytes)) empty) ∙ is)
 
--- behind the last line nothing is written
+-- after the last line nothing is written
 nothing_more : (st after : ScriptState) (begun input out : List ℕ) → begun ≡ [] → input ≡ [] → Goes st begun input out after → out ≡ []
 nothing_more st after begun input out none empty ended = refl
 nothing_more st after begun input out none empty (passed is goes) = absurd (cc)

@@ -1,4 +1,4 @@
--- What a session is replied by calls of which turns are known.
+-- The replies to a session's requests, by calls of which the turns are known.
 use Rattle.std.proofs.Common.{◌≡◌, ◌≢◌, ℕ, zero, suc, ◌+◌, ◌<◌, ◌≤◌, refl, ap, sym, subst, ◌∙◌, Bool, true, false, Some, arith, get_or}
 use Rattle.std.specs.Prelude.{Result, Ok, Err, IfOk, IfErr, IsTrue, ◌&&◌, nat_lt}
 use Rattle.std.specs.List.{list_all, range_with_len}
@@ -50,9 +50,9 @@ object_answered h before now object act answer t alone some follows at =
     let answered = key_answered h before now (key_of (settings_of h.options) object) act answer t alone some turns at in
     rw is (subst (λ k. (answer_term answer ≡ (at_key t h.number k act).0) × IsAt h.options now (at_key t h.number k act).1) same answered)
 
--- ---- refused
+-- ---- rejected
 
--- what was seen is seen
+-- a table whose view has not changed stays in its state
 stays : (h : Home) (before now : Views → Type 0) (t : TableState) → (at : IsAt h.options before t) → (w : Views) → now w → w ≡ at.views → IsAt h.options now t
 stays h before now t at w seen same =
     record { options = at.options; views = w; seen = seen; states = λ k inside. at.states k inside ∙ ap (λ (v : Views). state_after (settings_of h.options) (v k)) (sym same) }
@@ -81,7 +81,7 @@ some_in_range p n k inside fails =
     let place : get_or (range_with_len 0 n) k 0 ≡ k = get_or-range_with_len 0 n k 0 inside ∙ omega arith in
     list_all_at p (range_with_len 0 n) k 0 (omega (arith, inside, length-range_with_len 0 n)) (ap p place ∙ fails)
 
--- a count that is answered could rise, or fall
+-- a fix or a release is granted if the reply to it is no fault
 grants : (o : Settings) (s : PartState) (n : ℕ) (act : Act) → Replied Nothing ≡ reply_of o s n act → is_granted act (fixes_of s n) ≡ true
 unfolding reply_of
 grants o s n Act.Fix said =
@@ -90,7 +90,7 @@ grants o s n Act.Unfix said =
     by_test (nat_lt 0 (fixes_of s n)) (nat_lt 0 (fixes_of s n) ≡ true) (λ holds. holds) (λ fails. let wrong = rw fails at said in absurd (true≢false (sym (ap is_refused wrong))))
 grants o s n act said = refl
 
--- the session's counts at each part allow it
+-- the session's counts at each part allow the call
 abbrev are_granted : TableState → ℕ → Act → Bool
 are_granted t n act = list_all (λ part. is_granted act (fixes_of (t.states part) n)) (parts_of t)
 
@@ -139,7 +139,7 @@ unfix_refused h before now legal within follows = λ t at.
 
 -- ---- the reply to an outcome
 
--- an object's call that was refused, if not for want of memory
+-- the reply to a call with an object that was rejected for another reason than out of memory
 pub refusal_answered : (h : Home) (before now : Views → Type 0) (object : Datum) (act : Act) (f : Fault) (reply : Datum) (t : TableState) → Follows before now (RefusedByObject h object act f) → IsReplied {U = Unit {0}} (Err f) reply → IsAt h.options before t → (reply ≡ (at_object t h.number object act).0) × IsAt h.options now (at_object t h.number object act).1
 refusal_answered h before now object act f reply t follows replied at =
     let refused = object_refused h before now object act f t replied.0 follows at in

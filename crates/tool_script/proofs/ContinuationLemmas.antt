@@ -1,4 +1,4 @@
--- The continuations of a script are its walks.
+-- The continuations in memory are the walks of a script.
 use Rattle.std.proofs.Common.{◌≡◌, ℕ, zero, suc, ◌+◌, ◌<◌, ◌≤◌, ◌==◌, List, [], ◌∷◌, ◌++◌, refl, ap, sym, subst, Option, Some, None, arith, length, get_or, set, is_some, option_map}
 use Rattle.std.specs.Prelude.{Bool, true, false, ◌&&◌, if◌then◌else◌, nat_lt}
 use Rattle.std.proofs.lemmas.Bool.{eqb-true, ltb-true, ltb-false, and_parts, false≢true}
@@ -18,7 +18,7 @@ place_opened n o (Some c) None named is = absurd is
 place_opened n o (Some c) (Some held) named is =
     record { earlier = omega (arith, is.earlier); table = is.table; own = λ same. absurd (omega (arith, is.earlier, named, same)) }
 
--- no walk is one of a table that is opened now
+-- no walk belongs to a table that is just opened
 pub held_opened : {A : Type 0} (n : ℕ) (o : Options) (cs : List (Option (Continuation A))) (walks : List (Option Held)) → o.name ≡ n → AreHeld None n cs walks → AreHeld (Some o) (n + 1) cs walks
 held_opened n o [] [] named are = tt
 held_opened n o [] (held ∷ walks) named are = absurd are
@@ -43,7 +43,7 @@ let_go_place n o c None is = tt
 let_go_place n o None (Some held) is = (is.0, tt)
 let_go_place n o (Some c) (Some held) is = (subst (λ k. k < n) (sym is.table) is.earlier, tt)
 
--- they may all be let go then
+-- when a table is closed, all continuations may be dropped
 pub held_let_go : {A : Type 0} (n : ℕ) (o : Option Options) (cs new : List (Option (Continuation A))) (walks : List (Option Held)) → AreHeld o n cs walks → AreLetGo cs new → AreHeld None n new walks
 held_let_go n o [] [] [] are gone = tt
 held_let_go n o [] (d ∷ new) walks are gone = absurd (omega (arith, gone.0))
@@ -63,7 +63,7 @@ held_length o n [] (held ∷ walks) are = absurd are
 held_length o n (c ∷ cs) [] are = absurd are
 held_length o n (c ∷ cs) (held ∷ walks) are = ap suc (held_length o n cs walks are.1)
 
--- one more
+-- one more continuation and its walk
 pub held_more : {A : Type 0} (o : Option Options) (n : ℕ) (cs : List (Option (Continuation A))) (walks : List (Option Held)) (c : Option (Continuation A)) (held : Option Held) → AreHeld o n cs walks → IsPlace o n c held → AreHeld o n (cs ++ c ∷ []) (walks ++ held ∷ [])
 held_more o n [] [] c held are is = (is, tt)
 held_more o n [] (h ∷ walks) c held are is = absurd are
@@ -90,7 +90,7 @@ mapped : {X Y : Type 0} (f : X → Y) (b : Bool) (x : X) → (if b then Some (f 
 mapped f true x = refl
 mapped f false x = refl
 
--- of the table that is open, what is held is what the continuation says
+-- for the open table, a session's walk is the one that its continuation means
 pub own_is : {A : Type 0} (o : Options) (count n : ℕ) (c : Option (Continuation A)) (held : Option Held) → IsPlace (Some o) count c held → held_by o.name n held ≡ option_map (held_of o) (own_by o.name n c)
 own_is o count n None None is = refl
 own_is o count n None (Some held) is =
@@ -104,7 +104,7 @@ own_is o count n (Some c) (Some held) is =
     subst (λ (h : Held). held_by o.name n (Some h) ≡ option_map (held_of o) (own_by o.name n (Some c))) (sym whole) (mapped (held_of o) (c.table == o.name && c.session == n) c))
     (λ there. rw (is.table, there) refl)
 
--- a continuation that is no session's own stays in its place
+-- a continuation that is not the session's own stays in its place
 pub not_spent : {A : Type 0} (table n : ℕ) (c : Option (Continuation A)) → own_by table n c ≡ None → spent_by table n c ≡ c
 not_spent table n None none = refl
 not_spent table n (Some c) none = by (c.table == table && c.session == n) none
@@ -113,7 +113,7 @@ not_spent table n (Some c) none = by (c.table == table && c.session == n) none
     by true none = absurd (none-some c (sym none))
     by false none = refl
 
--- one that is, is there, and its place is empty then
+-- a session's own continuation is in its place, which is empty afterwards
 pub record Own {A : Type 0} (table n : ℕ) (place : Option (Continuation A)) (c : Continuation A) : Type 0 where
   pub there : place ≡ Some c
   pub table_is : c.table ≡ table
@@ -131,7 +131,7 @@ own_there table n (Some d) c e = by (d.table == table && d.session == n) refl e
         record { there = e; table_is = subst (λ x. x.table ≡ table) same (eqb-true d.table table parts.0); session_is = subst (λ x. x.session ≡ n) same (eqb-true d.session n parts.1); spent = rw holds refl }
     by false fails e = absurd (none-some c e)
 
--- what is a session's own is taken whole
+-- taking a session's own continuation leaves its place empty
 pub own_whole : {A : Type 0} (table n : ℕ) (place : Option (Continuation A)) → is_some (own_by table n place) ≡ true → (own_by table n place ≡ place) × (spent_by table n place ≡ None)
 own_whole table n None own = (refl, refl)
 own_whole table n (Some c) own = by (c.table == table && c.session == n) own
@@ -140,7 +140,7 @@ own_whole table n (Some c) own = by (c.table == table && c.session == n) own
     by true own = (refl, refl)
     by false own = absurd (false≢true own)
 
--- where no place is, nothing is spent
+-- a number that has no place spends nothing
 absent : {A : Type 0} (cs : List (Option (Continuation A))) (table n i : ℕ) → length cs ≤ i → cs ≡ set cs i (spent_by table n (get_or cs i None))
 absent [] table n i few = refl
 absent (c ∷ cs) table n zero few = absurd (omega (arith, few))

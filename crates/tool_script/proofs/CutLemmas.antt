@@ -1,5 +1,5 @@
--- Reading a beginning of a text, up to the end of a line: it does what reading the whole text does, or the beginning ends
--- too early.
+-- Reading the beginning of a text, up to the end of a line: it does what reading the whole text does, or the beginning
+-- ends too early.
 use Rattle.std.proofs.Common.{◌≡◌, ◌≢◌, ◌&&◌, ◌==◌, ℕ, zero, suc, ◌+◌, ◌*◌, ◌-◌, ◌≤◌, ◌<◌, inl, inr, Bool, true, false, cond, List, [], ◌∷◌, ◌++◌, length, take, drop, Option, Some, None, Result, Ok, Err, ℤ, pos, negsuc, refl, sym, ap, subst, ◌∙◌, arith, true≢false}
 use Rattle.std.specs.Prelude.{nat_lt, not, ◌||◌}
 use Rattle.std.specs.List.{prefix_len}
@@ -17,7 +17,7 @@ use Rattle.term_text.specs.declared.stop.Cause.TheVariants as causes
 use Rattle.term_text.specs.declared.token.Marks.{Marks}
 use Rattle.term_text.specs.declared.token.Opening.{Opening}
 use Rattle.term_text.specs.declared.token.Opening.TheVariants as opens
-use Rattle.term_text.specs.TokenReading.{Fault, Read, ◌>>=◌, stop, after_gap, Step, steps, all_steps, expect, expect_both, begins, behind, is_sign, opening, signed, fits, number_run, number_at, behind_sign, integer_at, word_at, escape_as, escape_at, is_allowed, character_at, next_quoted, pushed, quoted_step, quoted_at, behind_both, dot_at}
+use Rattle.term_text.specs.TokenReading.{Fault, Read, ◌>>=◌, stop, after_gap, Step, steps, all_steps, expect, expect_both, begins, behind, is_sign, opening, signed, fits, number_run, number_at, after_sign, integer_at, word_at, escape_as, escape_at, is_allowed, character_at, next_quoted, pushed, quoted_step, quoted_at, after_both, dot_at}
 use Rattle.term_text.specs.Reading.{comma_in, behind_item, separated, enter_as, enter, string_marks, atom_marks, byte_marks, string_at, byte_of, byte_at, one_byte_at, segment_as, segment_at, segments_at, bytes_at, binary_at, TermReader, TailReader, element_at, elements_at, items_at, tuple_at, list_end, list_from, list_at, has_key, pair_at, pairs_at, map_at, quoted_atom_at, word_term_at, integer_term_at, form_at, tail_form, term_at, tail_at, sentence_at}
 use Rattle.tool_script.specs.Line.{AreWholeLines}
 
@@ -41,13 +41,13 @@ no_end e = true≢false (sym e)
 
 -- ---- what reading comes to
 
--- The beginning ends too early; or both are read, to what is so related; or the whole text is refused.
+-- The beginning ends too early; or both are read, with results that are so related; or the whole text is rejected.
 pub data Cut {A B : Type 0} (R : A → B → Type 0) (r : Result A Fault) (w : Result B Fault) : Type 0 where
   ends : r ≡ Err (causes.Syntax, 0) → Cut R r w
   both : (a : A) (b : B) → R a b → r ≡ Ok a → w ≡ Ok b → Cut R r w
   stops : (e : Fault) → w ≡ Err e → Cut R r w
 
--- the same was read, and what is left of the whole text is what is left of its beginning, and the rest
+-- both read the same value, and what is left of the whole text is what is left of its beginning followed by the rest
 abbrev pub Leaves : {X : Type 0} → List ℕ → X × List ℕ → X × List ℕ → Type 0
 Leaves rest a b = (b ≡ (a.0, a.1 ++ rest)) × AreWholeLines a.1
 
@@ -74,7 +74,8 @@ cut_if Q false r s w v h k = k refl
 
 -- ---- gaps
 
--- behind the gap nothing is left of the beginning, or what is left there stands first in what is left of the whole text
+-- after the gap nothing is left of the beginning, or what is left of it is also what the rest of the whole text begins
+-- with
 pub data GapCut (b : Bool) (text rest : List ℕ) : Type 0 where
   to_end : after_gap b text ≡ [] → after_gap b (text ++ rest) ≡ after_gap false rest → GapCut b text rest
   before : (c : ℕ) (t : List ℕ) → AreWholeLines (c ∷ t) → after_gap b text ≡ c ∷ t → after_gap b (text ++ rest) ≡ c ∷ (t ++ rest) → GapCut b text rest
@@ -101,23 +102,23 @@ gap_from false (c ∷ cs) rest h some = elim (cases_eq c percent) [
 pub gap_cut : (text rest : List ℕ) → AreWholeLines text → GapCut false text rest
 gap_cut text rest h = gap_from false text rest h (λ f. absurd (no_end f))
 
--- what is read behind a gap
-behind_gap : {A B : Type 0} (Q : A → B → Type 0) (rest text : List ℕ) (f : List ℕ → Result A Fault) (g : List ℕ → Result B Fault) → AreWholeLines text → f [] ≡ Err (causes.Syntax, 0)
+-- reading after a gap
+past_gap : {A B : Type 0} (Q : A → B → Type 0) (rest text : List ℕ) (f : List ℕ → Result A Fault) (g : List ℕ → Result B Fault) → AreWholeLines text → f [] ≡ Err (causes.Syntax, 0)
     → ((c : ℕ) (t : List ℕ) → AreWholeLines (c ∷ t) → Cut Q (f (c ∷ t)) (g (c ∷ (t ++ rest)))) → Cut Q (f (after_gap false text)) (g (after_gap false (text ++ rest)))
-behind_gap Q rest text f g h none some = by (gap_cut text rest h)
+past_gap Q rest text f g h none some = by (gap_cut text rest h)
   where
     by : GapCut false text rest → Cut Q (f (after_gap false text)) (g (after_gap false (text ++ rest)))
     by (to_end e d) = ends (ap f e ∙ none)
     by (before c t k e d) =
         subst (λ x. Cut Q (f x) (g (after_gap false (text ++ rest)))) (sym e) (subst (λ y. Cut Q (f (c ∷ t)) (g y)) (sym d) (some c t k))
 
--- ---- characters that are due
+-- ---- characters that are expected
 
 expect_cut : (rest : List ℕ) (a c : ℕ) (t : List ℕ) → AreWholeLines (c ∷ t) → Cut (Rests rest) (expect a (c ∷ t)) (expect a (c ∷ (t ++ rest)))
 expect_cut rest a c t h =
     cut_if (Rests rest) (c == a) _ _ _ _ (λ _. both t (t ++ rest) (refl, closed_tail c t h) refl refl) (λ _. stops _ refl)
 
--- a value, and what follows
+-- a value, and what follows it
 abbrev with_value : {X : Type 0} → X → List ℕ → Read X
 with_value y rest = Ok (y, rest)
 
@@ -132,7 +133,7 @@ closes rest a y [] h = ends refl
 closes rest a y (c ∷ t) h = first_closes rest a c y t h
 
 gap_closes : {X : Type 0} (rest : List ℕ) (a : ℕ) (y : X) (t : List ℕ) → AreWholeLines t → Cut (Leaves rest) (expect a (after_gap false t) >>= with_value y) (expect a (after_gap false (t ++ rest)) >>= with_value y)
-gap_closes rest a y t h = behind_gap (Leaves rest) rest t (λ g. expect a g >>= with_value y) (λ g. expect a g >>= with_value y) h refl (λ c u k. first_closes rest a c y u k)
+gap_closes rest a y t h = past_gap (Leaves rest) rest t (λ g. expect a g >>= with_value y) (λ g. expect a g >>= with_value y) h refl (λ c u k. first_closes rest a c y u k)
 
 both_cut : (rest : List ℕ) (a b : ℕ) (t : List ℕ) → (line_feed == a) ≡ false → AreWholeLines t → Cut (Rests rest) (expect_both a b t) (expect_both a b (t ++ rest))
 both_cut rest a b [] n h = ends refl
@@ -190,7 +191,7 @@ steps_cut rest step each (suc n) (suc m) le s t h =
     (λ a b k. subst (λ y. Cut (Leaves rest) (cond a.0 (steps step n a.1 a.2) (Ok (a.1, a.2))) (cond y.0 (steps step m y.1 y.2) (Ok (y.1, y.2)))) (sym k.0)
     (cut_if (Leaves rest) a.0 _ _ _ _ (λ _. steps_cut rest step each n m (omega (arith, le)) a.1 a.2 k.1) (λ _. value_cut rest a.1 a.2 k.1)))
 
--- there is fuel for the whole text
+-- the recursion limit for the beginning is within that for the whole text
 more_fuel : (t rest : List ℕ) → suc (length t) ≤ suc (length (t ++ rest))
 more_fuel t rest = omega (arith, length-append t rest)
 
@@ -329,18 +330,18 @@ enter_cut rest levels room c t h = enter_in rest levels room (c ∷ t) (c ∷ (t
 
 -- ---- items with commas between
 
--- what reading items comes to: the beginning may have ended behind an item
+-- the result of reading items: the beginning may have ended after an item
 data Loose {X : Type 0} (rest : List ℕ) (r w : Read X) : Type 0 where
   ended : (x : X) → r ≡ Ok (x, []) → Loose rest r w
   cut : Cut (Leaves rest) r w → Loose rest r w
 
--- and what a step does: it may have ended behind an item, or behind its comma
+-- the result of a step: the beginning may have ended after an item, or after its comma
 data StepLoose {S : Type 0} (rest : List ℕ) (r w : Result (Bool × S × List ℕ) Fault) : Type 0 where
   over : (s : S) → r ≡ Ok (false, s, []) → StepLoose rest r w
   begun : (s : S) → r ≡ Ok (true, s, []) → StepLoose rest r w
   goes : Cut (StepLeaves rest) r w → StepLoose rest r w
 
--- behind an item and its gap
+-- after an item and its gap, with the comma if there is one
 abbrev item_at : {S : Type 0} → S → List ℕ → Result (Bool × S × List ℕ) Fault
 item_at s g = Ok ((comma_in g).0, s, (comma_in g).1)
 
@@ -377,7 +378,7 @@ loose_if : {X : Type 0} (rest : List ℕ) (b : Bool) (r s w v : Read X) → (b �
 loose_if rest true r s w v h k = h refl
 loose_if rest false r s w v h k = k refl
 
--- one step, and the others
+-- one step, followed by the other steps
 abbrev stepped : {S : Type 0} → Step S → ℕ → Bool × S × List ℕ → Read S
 stepped step n a = cond a.0 (steps step n a.1 a.2) (Ok (a.1, a.2))
 
@@ -419,13 +420,13 @@ items_cut rest item i s t h =
 no_items : {S : Type 0} (rest : List ℕ) (item : S → List ℕ → Read S) → Items rest item → (s : S) → all_steps (separated item) s [] ≡ Err (causes.Syntax, 0)
 no_items rest item i s = steps_none (separated item) (no_item rest item i) (suc zero) s
 
--- ---- what closes at once
+-- ---- what is closed at once
 
 closes_at_once : {X : Type 0} (rest : List ℕ) (a : ℕ) (y : X) (f : Option (List ℕ) → List ℕ → Read X) → ((u t : List ℕ) → f (Some u) t ≡ Ok (y, u)) → f None [] ≡ Err (causes.Syntax, 0)
     → ((c : ℕ) (t : List ℕ) → AreWholeLines (c ∷ t) → Cut (Leaves rest) (f None (c ∷ t)) (f None (c ∷ (t ++ rest))))
     → (t : List ℕ) → AreWholeLines t → Cut (Leaves rest) (f (behind a (after_gap false t)) (after_gap false t)) (f (behind a (after_gap false (t ++ rest))) (after_gap false (t ++ rest)))
 closes_at_once rest a y f closed none some t h =
-    behind_gap (Leaves rest) rest t (λ g. f (behind a g) g) (λ g. f (behind a g) g) h none
+    past_gap (Leaves rest) rest t (λ g. f (behind a g) g) (λ g. f (behind a g) g) h none
     (λ c u k. elim (cases_eq c a) [
       | inl e ↦ both (y, u) (y, u ++ rest) (refl, closed_tail c u k) (rw (eq-eqb c a e) (closed u (c ∷ u))) (rw (eq-eqb c a e) (closed (u ++ rest) (c ∷ (u ++ rest))))
       | inr n ↦ rw (ne_eqb c a n) (some c u k)
@@ -468,16 +469,16 @@ segments : (rest : List ℕ) → Items rest segment_at
 unfolding segment_at
 segments rest = record { none = λ s. refl; each = λ s t h. segment_cut rest s t h }
 
--- behind the opening of a binary, and its gap
+-- after the opening of a binary, and its gap
 abbrev bytes_in : List ℕ → Read (List ℕ)
-bytes_in g = bytes_at (behind_both greater greater g) g
+bytes_in g = bytes_at (after_both greater greater g) g
 
 segments_closed : (rest : List ℕ) (t : List ℕ) → AreWholeLines t → Cut (Leaves rest) (bytes_at None t) (bytes_at None (t ++ rest))
 segments_closed rest t h =
     loose_bind rest (Leaves rest) _ _ _ _ (items_cut rest segment_at (segments rest) [] t h) (λ x. refl)
     (λ x u k. text_bind rest (Leaves rest) _ _ _ _ (both_cut rest greater greater u refl k) (λ v l. value_cut rest x v l))
 
-feed_first : (c : ℕ) (rest : List ℕ) → c ≡ line_feed → behind_both greater greater (c ∷ rest) ≡ None
+feed_first : (c : ℕ) (rest : List ℕ) → c ≡ line_feed → after_both greater greater (c ∷ rest) ≡ None
 feed_first c [] h = refl
 feed_first c (y ∷ ys) h = rw h refl
 
@@ -494,22 +495,22 @@ no_bytes = rw (no_items [] segment_at (segments []) []) refl
 binary_cut : (rest t : List ℕ) → AreWholeLines t → Cut (Leaves rest) (binary_at t) (binary_at (t ++ rest))
 unfolding binary_at
 binary_cut rest t h =
-    read_bind rest (Leaves rest) _ _ _ _ (behind_gap (Leaves rest) rest t bytes_in bytes_in h no_bytes (λ c u k. bytes_cut rest c u k)) (λ x u k. both _ _ (refl, k) refl refl)
+    read_bind rest (Leaves rest) _ _ _ _ (past_gap (Leaves rest) rest t bytes_in bytes_in h no_bytes (λ c u k. bytes_cut rest c u k)) (λ x u k. both _ _ (refl, k) refl refl)
 
 -- ---- terms
 
--- readers of terms that are nested less
+-- readers of terms that are nested less deeply
 record Readers (rest : List ℕ) (read : TermReader) (read_tail : TailReader) : Type 0 where
   none : (room : ℕ) → read room [] ≡ Err (causes.Syntax, 0)
   term : (room : ℕ) (t : List ℕ) → AreWholeLines t → Cut (Leaves rest) (read room t) (read room (t ++ rest))
   no_tail : (front : List Datum) → read_tail front [] ≡ Err (causes.Syntax, 0)
   tail : (front : List Datum) (t : List ℕ) → AreWholeLines t → Cut (Leaves rest) (read_tail front t) (read_tail front (t ++ rest))
 
--- the tail of a list, and its end
+-- the tail of a list, and its closing bracket
 abbrev with_tail : TailReader → List Datum → List ℕ → Read Datum
 with_tail read_tail ds g = read_tail ds g >>= λ x. expect close_bracket (after_gap false x.1) >>= with_value x.0
 
--- behind a key its value
+-- a key with the value that follows it
 abbrev with_both : List (Datum × Datum) → Datum → Datum × List ℕ → Read (List (Datum × Datum))
 with_both es key v = Ok (insert_entry datum_cmp es key v.0, v.1)
 
@@ -541,7 +542,7 @@ module _ (rest : List ℕ) (read : TermReader) (read_tail : TailReader) (r : Rea
   unfolding list_end
   tail_closed ds [] h = ends refl
   tail_closed ds (c ∷ t) h = elim (cases_eq c bar) [
-    | inl e ↦ rw (eq-eqb c bar e) (behind_gap (Leaves rest) rest t (with_tail read_tail ds) (with_tail read_tail ds) (closed_tail c t h) (rw (r.no_tail ds) refl) (λ d u k. read_bind rest (Leaves rest) _ _ _ _ (r.tail ds (d ∷ u) k) (λ x v l. gap_closes rest close_bracket x v l)))
+    | inl e ↦ rw (eq-eqb c bar e) (past_gap (Leaves rest) rest t (with_tail read_tail ds) (with_tail read_tail ds) (closed_tail c t h) (rw (r.no_tail ds) refl) (λ d u k. read_bind rest (Leaves rest) _ _ _ _ (r.tail ds (d ∷ u) k) (λ x v l. gap_closes rest close_bracket x v l)))
     | inr n ↦ rw (ne_eqb c bar n) (first_closes rest close_bracket c (cells ds nil) t h)
   ]
 
@@ -562,9 +563,9 @@ module _ (rest : List ℕ) (read : TermReader) (read_tail : TailReader) (r : Rea
   pair_cut es t h =
       read_bind rest (Leaves rest) _ _ _ _ (r.term (map_limit - length es) t h)
       (λ key u k. cut_if (Leaves rest) (has_key key es) _ _ _ _ (λ _. stops _ refl)
-      (λ _. behind_gap (Leaves rest) rest u (λ g. expect_both equals greater g >>= with_key read es key) (λ g. expect_both equals greater g >>= with_key read es key) k refl
+      (λ _. past_gap (Leaves rest) rest u (λ g. expect_both equals greater g >>= with_key read es key) (λ g. expect_both equals greater g >>= with_key read es key) k refl
       (λ c v l. text_bind rest (Leaves rest) _ _ _ _ (both_cut rest equals greater (c ∷ v) refl l)
-      (λ v l. behind_gap (Leaves rest) rest v (λ g. read 1 g >>= with_both es key) (λ g. read 1 g >>= with_both es key) l (rw (r.none 1) refl)
+      (λ v l. past_gap (Leaves rest) rest v (λ g. read 1 g >>= with_both es key) (λ g. read 1 g >>= with_both es key) l (rw (r.none 1) refl)
       (λ c w p. read_bind rest (Leaves rest) _ _ _ _ (r.term 1 (c ∷ w) p) (λ value x q. both _ _ (refl, q) refl refl))))))
 
   pairs : Items rest (pair_at read)
@@ -658,5 +659,5 @@ pub sentence_cut : (rest t : List ℕ) → AreWholeLines t → Cut (Leaves rest)
 unfolding sentence_at
 sentence_cut rest t h =
     read_bind rest (Leaves rest) _ _ _ _ ((readers rest depth_limit).term 1 t h)
-    (λ x u k. behind_gap (Leaves rest) rest u (λ g. dot_at g >>= with_value x) (λ g. dot_at g >>= with_value x) k refl
+    (λ x u k. past_gap (Leaves rest) rest u (λ g. dot_at g >>= with_value x) (λ g. dot_at g >>= with_value x) k refl
     (λ c v l. text_bind rest (Leaves rest) _ _ _ _ (dot_cut rest (c ∷ v) l) (λ w p. value_cut rest x w p)))

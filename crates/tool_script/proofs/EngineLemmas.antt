@@ -22,7 +22,7 @@ use Rattle.tool_script.proofs.PassLemmas.{replied_more}
 one_more : (rs : List Datum) (r : Datum) → flat_map line rs ++ line r ≡ flat_map line (rs ++ r ∷ [])
 one_more rs r = ap (λ l. flat_map line rs ++ l) (sym (append-nil (line r))) ∙ sym (flat_map-append line rs (r ∷ []))
 
--- a text that is refused
+-- why a rejected text is not read
 pub unread : (input : List ℕ) (f : TextFault) → ((ds : List Datum) → Spells input ds → f ≡ faults.Memory) → HasCause input f → ((at : ℕ) → (f ≡ faults.BadUtf8 at) ↔ IsValidUpTo input at) → IsUnread input f
 unread input faults.Memory only cause bad = inl refl
 unread input (faults.TooDeep at) only cause bad = inr (text_refused input (faults.TooDeep at) only cause bad)
@@ -37,7 +37,7 @@ module _ {S O A : Type 0} {s : Ghosts S A} {o : Ghosts O A} where
   pub put_none : (script : script_type.Script S O A s o) (lines : List ℕ) → ArePut script script [] lines lines
   put_none script lines = λ st has. ([], st, refl, has, sym (append-nil lines))
 
-  -- one more term
+  -- one more reply is appended
   pub put_more : (old mid new : script_type.Script S O A s o) (terms : List Datum) (i : ℕ) (d e : Datum) (first lines more : List ℕ) → i < length terms → d ≡ get_or terms i e
       → ArePut old mid (take i terms) first lines → IsPut mid new d lines more → ArePut old new (take (i + 1) terms) first more
   put_more old mid new terms i d e first lines more there is so_far put = λ st has.
@@ -50,14 +50,14 @@ module _ {S O A : Type 0} {s : Ghosts S A} {o : Ghosts O A} where
         p.4 ∙ ap (λ l. l ++ line p.0) f.4 ∙ append_assoc first (flat_map line f.0) (line p.0) ∙ ap (λ l. first ++ l) (one_more f.0 p.0),
       )
 
-  -- memory ran out there
+  -- memory ran out: the replies before are appended
   pub put_first : (old mid : script_type.Script S O A s o) (terms : List Datum) (i : ℕ) (first lines more : List ℕ)
       → ArePut old mid (take i terms) first lines → more ≡ lines → ArePutFirst old terms first more
   put_first old mid terms i first lines more so_far same = λ st has.
       let f = so_far st has in
       (take i terms, drop i terms, f.0, f.1, sym (take-append-drop i terms), f.2, same ∙ f.4)
 
-  -- the lines before were let go
+  -- the lines of the last text were dropped, so the lines are those of the first replies
   pub first_replies : (old : script_type.Script S O A s o) (text : List ℕ) (terms : List Datum) (more : List ℕ)
       → Spells text terms → ArePutFirst old terms [] more → (st : ScriptState) → HasState old st → FirstReplies st text more
   first_replies old text terms more spells put st has =

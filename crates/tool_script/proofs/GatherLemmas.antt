@@ -20,7 +20,7 @@ are_replies st [] (r ∷ rs) a h = absurd h
 are_replies st (d ∷ ds) [] a h = absurd h
 are_replies st (d ∷ ds) (r ∷ rs) a (mid, first, rest) = (mid, first, are_replies mid ds rs a rest)
 
--- lines gathered after what was written are those of the replies so far
+-- the lines written and gathered are those of the replies so far
 pub record Gathered (terms : List Datum) (after : ScriptState) (old now : Option (List ℕ)) (lines : List ℕ) : Type 0 where
   pub done : List ℕ
   pub gained : Appends old now done
@@ -31,7 +31,7 @@ pub record Gathered (terms : List Datum) (after : ScriptState) (old now : Option
 pub gathered_none : (terms : List Datum) (old : Option (List ℕ)) → Gathered (take 0 terms) beginning old old []
 gathered_none terms old = record { done = []; gained = appends_none old; replies = []; replied = refl; text = refl }
 
--- one more line
+-- one more line is gathered
 pub gathered_more : (terms : List Datum) (i : ℕ) (d reply : Datum) (before after : ScriptState) (old now : Option (List ℕ)) (lines more : List ℕ) → i < length terms → d ≡ get_or terms i d → Gathered (take i terms) before old now lines → IsReply before d reply after → more ≡ lines ++ line reply → Gathered (take (i + 1) terms) after old now more
 gathered_more terms i d reply before after old now lines more there is g replied grown =
     record {
@@ -43,7 +43,7 @@ gathered_more terms i d reply before after old now lines more there is g replied
           ∙ ap (λ xs. flat_map line g.replies ++ xs) (sym (append-nil (line reply))) ∙ sym (flat_map-append line g.replies (reply ∷ []));
     }
 
--- lines are passed on
+-- gathered lines are passed to the writer
 pub gathered_passed : (terms : List Datum) (after : ScriptState) (old now later : Option (List ℕ)) (lines rest : List ℕ) → Gathered terms after old now lines → Passes now later lines rest → Gathered terms after old later rest
 gathered_passed terms after old now later lines rest g p =
     record {

@@ -1,4 +1,5 @@
 pub mod ReadingLemmas
+pub mod NameLemmas
 mod ReplyLemmas
 mod TextLemmas
 mod LinkLemmas

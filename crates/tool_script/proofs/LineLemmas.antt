@@ -12,17 +12,17 @@ use Rattle.tool_script.specs.declared.line.Progress.{Progress}
 use Rattle.tool_script.specs.declared.line.Progress.TheVariants as progress
 use Rattle.tool_script.specs.Line.{IsLineBefore, IsLine, EndsLine, TakesLine}
 
--- what ends with a line feed is a line before anything
+-- bytes that end with their only line feed are a line, whatever follows
 line_before : (line rest : List ℕ) → StopsAt line 10 → EndsLine line progress.More → IsLineBefore line rest
 line_before line rest stops ends =
     through_part 10 line rest stops (λ some. ends.1) (λ none. absurd (omega (arith, none, ends.0)))
 
--- what has none is the last line
+-- bytes without a line feed are the last line
 last_line : (line : List ℕ) → All (λ x. x ≢ 10) line → IsLineBefore line []
 last_line line free =
     (take_through-append 10 line [] free ∙ append-nil line, drop_through-append 10 line [] free)
 
--- none of its bytes is one
+-- a line that does not end with a line feed has none
 free_of : (line : List ℕ) → StopsAt line 10 → EndsLine line progress.End → All (λ x. x ≢ 10) line
 free_of [] stops ends = stops
 free_of (x ∷ xs) stops ends =
@@ -35,7 +35,7 @@ free_of (x ∷ xs) stops ends =
     alone : (y : ℕ) → y ≢ 10 → All (λ z. z ≢ 10) (y ∷ [])
     alone y other = search rules
 
--- so it was all that was left
+-- if the first line has no line feed, it was all that was left
 all_taken : (xs : List ℕ) → All (λ x. x ≢ 10) (take_through 10 xs) → take_through 10 xs ≡ xs
 all_taken [] free = refl
 all_taken (x ∷ xs) free = by_test (eqb x 10) refl free (all_taken xs)
@@ -67,6 +67,6 @@ taken before after old new p front stops lost is ends =
         let free = free_of (appended_bytes old new) stops ends in
         (last_line (appended_bytes old new) free, all_left before old new is free)
 
--- the end of a slice
+-- dropping bytes, then taking as many as are left, takes all of them
 pub slice_end : (xs : List ℕ) (n : ℕ) → take (length xs - n) (drop n xs) ≡ drop n xs
 slice_end xs n = take_all (length xs - n) (drop n xs) (omega (arith, length-drop n xs))

@@ -1,4 +1,4 @@
--- What turns make of the states of a table, where a session is alone with it.
+-- What turns change in the states of a table, if the session is alone with it.
 use Rattle.std.proofs.Common.{◌≡◌, ℕ, ◌<◌, ◌==◌, ap, sym, subst, ◌∙◌, Some}
 use Rattle.std.specs.Prelude.{IsTrue, if◌then◌else◌}
 use Rattle.std.proofs.lemmas.Bool.{eqb-true, eqb-false}

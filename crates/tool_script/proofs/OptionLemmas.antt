@@ -21,7 +21,7 @@ number_in low high (pos m) n e = by (nat_le low m && nat_le m high) refl e
     by false fails e = absurd (none-some n e)
 number_in low high (negsuc m) n e = absurd (none-some n e)
 
--- what options are made of
+-- the fields of options are what was read
 record AreFrom (name : ℕ) (kind : TableKind) (keypos parts sessions : Option ℕ) (o : Options) : Type 0 where
   named : o.name ≡ name
   keypos_is : keypos ≡ Some o.keypos

@@ -1,4 +1,4 @@
--- What a shell writes is one.
+-- The output of a shell is determined.
 use Rattle.std.proofs.Common.{◌≡◌, ◌≢◌, ◌⊎◌, ◌<◌, ◌∙◌, ℕ, Bool, true, false, List, [], ◌∷◌, ◌++◌, length, flat_map, refl, sym, ap, subst, arith, inl, inr}
 use Rattle.term_core.specs.Datum.{Datum}
 use Rattle.term_text.specs.Laws.{SpellsOne, HasOneFault, IsRefusal}
@@ -17,7 +17,7 @@ use Rattle.tool_script.specs.Shell.Goes.{ended, passed, goes_on, looked_at, give
 
 -- ---- by the effect of the next line
 
--- a text is looked at, and what stands behind it is answered
+-- a text is examined, and the rest of the input is processed
 record Stepped (is_given_up : Bool) (st : ScriptState) (text rest out : List ℕ) (after : ScriptState) : Type 0 where
   now : List ℕ
   left : List ℕ
@@ -78,7 +78,7 @@ module _ (replied_once : (st : ScriptState) (d a b : Datum) (p q : ScriptState) 
     looked_once g st p q text a b l m (refused {f} wrong why) (refused {f = h} also reason) =
         (ap (λ (x : TextFault). line (refusal x)) (one_fault.one text f h (refusal_of text f wrong) (refusal_of text h also)), refl, refl)
 
-    -- what is written behind a text, where what it comes to is one
+    -- the output for the rest, where the state and the pending text after a text are equal
     moved : (p q after : ScriptState) (l m rest out : List ℕ) → p ≡ q → l ≡ m → Goes q m rest out after → Goes p l rest out after
     moved p q after l m rest out is same goes = subst (λ (x : ScriptState). Goes x l rest out after) (sym is) (subst (λ xs. Goes q xs rest out after) (sym same) goes)
 

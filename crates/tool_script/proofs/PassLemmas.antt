@@ -1,4 +1,4 @@
--- Lines that are put, passed on and written, and replies behind others.
+-- Lines that are appended, passed on and written, and replies that follow others.
 use Rattle.std.proofs.Common.{◌≡◌, Option, Some, None, List, [], ◌∷◌, ◌++◌, ℕ, refl, sym, ap, subst, ◌∙◌, append_assoc}
 use Rattle.std.proofs.lemmas.List.{append-nil}
 use Rattle.std.specs.Io.KnownBytes.{Appends, Consumes}
@@ -21,11 +21,11 @@ consumes_join (Some u) None c x y p q = absurd p
 consumes_join (Some u) (Some v) None x y p q = absurd q
 consumes_join (Some u) (Some v) (Some w) x y p q = p ∙ ap (λ l. x ++ l) q ∙ sym (append_assoc x y w)
 
--- nothing is put
+-- nothing is appended or passed on
 pub passes_none : (a : Option (List ℕ)) (lines : List ℕ) → Passes a a (lines ++ []) lines
 passes_none a lines = record { part = []; gained = appends_none a; kept = sym (append-nil lines) }
 
--- something is put behind lines of which some were passed on, and more are passed on
+-- after some lines were passed on, more are appended, and some of those are passed on
 pub passes_more : (a b c : Option (List ℕ)) (old mid put new : List ℕ) → Passes a b old mid → Passes b c (mid ++ put) new → Passes a c (old ++ put) new
 passes_more a b c old mid put new p q =
     record {
@@ -34,7 +34,7 @@ passes_more a b c old mid put new p q =
       kept = append_assoc p.part q.part new ∙ ap (λ l. p.part ++ l) q.kept ∙ sym (append_assoc p.part mid put) ∙ ap (λ l. l ++ put) p.kept;
     }
 
--- only passed on
+-- lines are only passed on
 pub passes_on : (a b c : Option (List ℕ)) (old mid new : List ℕ) → Passes a b old mid → Passes b c mid new → Passes a c old new
 passes_on a b c old mid new p q =
     record {
@@ -43,10 +43,10 @@ passes_on a b c old mid new p q =
       kept = append_assoc p.part q.part new ∙ ap (λ l. p.part ++ l) q.kept ∙ p.kept;
     }
 
--- only put
+-- lines are only appended
 pub passes_put : (a : Option (List ℕ)) (old put new : List ℕ) → new ≡ old ++ put → Passes a a (old ++ put) new
 passes_put a old put new is = record { part = []; gained = appends_none a; kept = is }
 
--- all are written
+-- all lines are written
 pub passes_written : (a b c : Option (List ℕ)) (old lines : List ℕ) → Passes a b old lines → Appends b c lines → Appends a c old
 passes_written a b c old lines p q = subst (Appends a c) p.kept (appends_join a b c p.part lines p.gained q)

@@ -1,5 +1,5 @@
--- Pieces of a text that spells terms: whole lines at its beginning spell terms, or end too early; and what is behind
--- lines that spell terms spells the others.
+-- Pieces of a text that spells terms: whole lines at its beginning spell terms, or end too early; and what follows
+-- lines that spell terms spells the other terms.
 use Rattle.std.proofs.Common.{◌≡◌, ◌≢◌, ◌⊎◌, ◌==◌, ◌&&◌, ℕ, zero, suc, ◌+◌, ◌-◌, ◌≤◌, ◌<◌, inl, inr, Bool, true, false, List, [], ◌∷◌, ◌++◌, length, take, drop, get_or, Result, Ok, Err, refl, sym, ap, subst, ◌∙◌, arith, append_assoc, take-append-drop, take_all}
 use Rattle.std.specs.Prelude.{IfOk, not, ◌||◌}
 use Rattle.std.specs.List.{AllByRecursion}
@@ -39,7 +39,7 @@ use Rattle.tool_script.proofs.CutLemmas.GapCut.{to_end, before}
 
 -- ---- sentences
 
--- a text that begins with these characters behind its gap, and spells terms, begins with a sentence
+-- a text that has these characters after its gap, and spells terms, begins with a sentence
 record First (c : ℕ) (text : List ℕ) (ds : List Datum) : Type 0 where
   d : Datum
   others : List Datum
@@ -62,7 +62,7 @@ first_of whole c text ds e (sentence {t} {u} {rest} {d} {ds = es} g s x y more) 
   more = more;
 }
 
--- no term is left where nothing is behind the gap
+-- no term is left if nothing follows the gap
 nothing_left : (whole : List ℕ) → after_gap false whole ≡ [] → Sentences whole []
 nothing_left whole e = no_more whole (after_gap false whole) e (gap_holds whole)
 
@@ -77,12 +77,12 @@ same_read d e r s x f g =
 not_refused : {X : Type 0} (x : Result X Fault) (a : X) (f : Fault) → x ≡ Ok a → x ≡ Err f → ⊥
 not_refused x a f e d = let h = sym e ∙ d in absurd cc
 
--- a beginning of a text
+-- the beginning of a text spells terms, or ends too early
 data Begins (text : List ℕ) : Type 0 where
   spelled : {ds : List Datum} → Sentences text ds → Begins text
   unended : SentencesStop (after_gap false text) (causes.Syntax, 0) → Begins text
 
--- behind a sentence
+-- a sentence followed by such a beginning is such a beginning
 begins_behind : (text : List ℕ) (c : ℕ) (t rest : List ℕ) (d : Datum) → after_gap false text ≡ c ∷ t → sentence_at (c ∷ t) ≡ Ok (d, rest) → Begins rest → Begins text
 begins_behind text c t rest d e h b =
     let s = holds_at (λ (x : Datum × List ℕ). SentenceRead (c ∷ t) x.0 x.1) (sentence_at (c ∷ t)) (d, rest) (sentence_holds (c ∷ t)) h in
@@ -114,7 +114,7 @@ begins whole text rest ds is h (sentence {t = b} {u} {rest = r} {d} {ds = es} g 
     by again (before c t k e f) =
         further again c t e (read_at b (c ∷ (t ++ rest)) r d (sym (gap_first g (spelled_first s)) ∙ (ap (after_gap false) is ∙ f)) (sentence_again b r d s x y)) (sentence_cut rest (c ∷ t) k)
 
--- texts that are one behind their gaps
+-- two texts with the same characters after their gaps are read alike
 read_alike : (text other : List ℕ) → after_gap false text ≡ after_gap false other → text_at text ≡ text_at other
 unfolding text_at
 read_alike text other e = rw e refl
@@ -123,7 +123,7 @@ gap_alike : (text other : List ℕ) (ds : List Datum) → after_gap false text �
 gap_alike text other ds e h =
     holds_at (λ es. Sentences other es) (text_at other) ds (text_holds other) (sym (read_alike text other e) ∙ text_again text ds h)
 
--- what is left behind these terms
+-- what is left after these terms spells the other terms
 record Left (rest : List ℕ) (ds es : List Datum) : Type 0 where
   others : List Datum
   joined : ds ≡ es ++ others
@@ -169,7 +169,7 @@ feed_behind [] = refl
 feed_behind (x ∷ []) = refl
 feed_behind (x ∷ y ∷ xs) = feed_behind (y ∷ xs)
 
--- so they and what is behind them are text
+-- so they and what follows them are each UTF-8
 record Divided (text rest : List ℕ) : Type 0 where
   front : IsUtf8 text
   behind : IsUtf8 rest
@@ -231,7 +231,7 @@ spells_nothing = record { utf8 = IsUtf8-nil; sentences = rw chars-nil (none no_g
     no_gap_there : Gap [] []
     no_gap_there = Gap.no_gap
 
--- what ends too early is refused for that
+-- a text that ends too early is rejected for that
 ends_early : (text : List ℕ) → IsUtf8 text → text_at (chars text) ≡ Err (causes.Syntax, 0) → IsRefusal text (faults.Syntax (length text))
 ends_early text u e =
     let all : take (length (chars text) - 0) (chars text) ≡ chars text = take_all (length (chars text) - 0) (chars text) (omega arith) in
@@ -242,7 +242,7 @@ ends_early text u e =
       bad_utf8 = λ at. (λ f. absurd (no_bad_utf8 (stops.At causes.Syntax 0) (chars text) at f), λ v. absurd (not_both text at u v));
     })
 
--- whole lines that stand first in a text which spells terms are refused, if they are, for ending too early
+-- if whole lines at the beginning of a text that spells terms are rejected, it is because they end too early
 pub only_early : (one : HasOneFault) (text rest : List ℕ) (ds : List Datum) (f : TextFault) → AreWholeLines text → Spells (text ++ rest) ds → IsNoText text f → f ≡ faults.Syntax (length text)
 only_early one text rest ds f h whole wrong = by (begins (chars (text ++ rest)) (chars text) (chars rest) ds d.whole d.lines whole.sentences)
   where
@@ -292,7 +292,7 @@ one_line (x ∷ xs) = elim (cases_eq x line_feed) [
   | inr n ↦ rw (ne_eqb x line_feed n) (byte n (one_line xs))
 ]
 
--- the characters of a line have none either
+-- the characters of a line have a line feed only at the end, too
 skip : (front rest : List ℕ) → OneLine (front ++ rest) → OneLine rest
 skip [] rest h = h
 skip (x ∷ front) rest h = by (front ++ rest) (x ∷ (front ++ rest)) refl h (λ l. skip front rest l)
@@ -355,13 +355,13 @@ empty_idle (c ∷ line) h =
 idle_spelled : (line : List ℕ) → IsUtf8 line → is_idle line ≡ true → OneLine line → Spells line []
 idle_spelled line u h one = record { utf8 = u; sentences = nothing_left (chars line) (idle_read line u h one) }
 
--- what is behind such a line spells what it spelled
+-- what follows an idle line spells what the line and it spell
 pub idle_behind : (line rest : List ℕ) (ds : List Datum) → OneLine line → is_idle line ≡ true → AreWholeLines line → Spells (line ++ rest) ds → Spells rest ds
 idle_behind line rest ds one h lines whole =
     let d = divided line rest lines whole.utf8 in
     let l = spells_behind line rest ds [] lines whole (idle_spelled line d.front h one) in
     subst (λ es. Spells rest es) (sym l.joined) l.spelled
 
--- and alone it spells nothing
+-- an idle line alone spells nothing
 pub idle_alone : (once : SpellsOne) (line : List ℕ) (ds : List Datum) → OneLine line → is_idle line ≡ true → Spells line ds → ds ≡ []
 idle_alone once line ds one h s = once line ds [] s (idle_spelled line s.utf8 h one)

@@ -17,7 +17,7 @@ use Rattle.tool_script.specs.Command.Command.{Open, Session, Walk, Close}
 use Rattle.tool_script.specs.Reading.{kind_in, ask_alone, ask_with, asked_by, asked_with, selection_with, selection_within, walked_by, walked_with}
 use Rattle.tool_script.specs.Reading.{told_by, kind_by, opened_with, command_with, elements_in}
 
--- ---- what is read has the term that it was read from
+-- ---- a command that is read has the term that it was read from
 
 -- a name that is found is the one that was looked for
 choices : {X : Type 0} {later : Option X} (name cs : List ℕ) (found : Option X) (P : List ℕ → X → Type 0) → ((x : X) → found ≡ Some x → P name x) → ((y : X) → later ≡ Some y → P cs y) → (y : X) → (if pointwise nat_eq name cs then found else later) ≡ Some y → P cs y
@@ -73,7 +73,7 @@ integer_is nil z e = absurd (none-some z e)
 integer_is (cons h t) z e = absurd (none-some z e)
 integer_is (binary bs) z e = absurd (none-some z e)
 
--- what is made of an integer
+-- a value that is made of an integer
 of_integer : {X : Type 0} (make : ℤ → X) (d : Datum) (x : X) (P : Datum → X → Type 0) → ((z : ℤ) → P (integer z) (make z)) → option_map make (integer_of d) ≡ Some x → P d x
 of_integer make (integer z) x P each e = subst (P (integer z)) (same_Some (make z) x e) (each z)
 of_integer make (atom cs) x P each e = absurd (none-some x e)
@@ -117,7 +117,7 @@ walked_sound term s (Some z) (Some x) c numbered selected e =
     ap term (numbered z refl) ∙ selected z x refl ∙ ap command_term (same_Some (Walk z x) c e)
 walked_sound term s number selection c numbered selected e = absurd (none-some c e)
 
--- one of two
+-- the first or the second of two optional values
 either : {X : Type 0} (a b : Option X) (x : X) (P : X → Type 0) → ((y : X) → a ≡ Some y → P y) → ((y : X) → b ≡ Some y → P y) → option_or a b ≡ Some x → P x
 either None b x P first second e = second x e
 either (Some y) b x P first second e = first x e
@@ -164,12 +164,12 @@ elements_sound (binary bs ∷ ds) c e = absurd (none-some c e)
 
 -- ---- a command is read back from its term
 
--- the elements of a tuple in a list
+-- the elements of a tuple, as a list
 unfoldable pub elements_of : Items → List Datum
 elements_of no_items = []
 elements_of (item d ds) = d ∷ elements_of ds
 
--- the command of a term
+-- the command that is read from a term
 unfoldable pub command_in : Datum → Option Command
 command_in (tuple ds) = elements_in (elements_of ds)
 command_in d = None
@@ -204,11 +204,11 @@ read_back (Walk s (SelectCount d)) = refl
 read_back (Walk s (SelectDelete d)) = refl
 read_back Close = refl
 
--- two commands with one term are one
+-- two commands with the same term are equal
 pub command_term_is_one : (a b : Command) → command_term a ≡ command_term b → a ≡ b
 command_term_is_one a b same = same_Some a b (sym (read_back a) ∙ ap command_in same ∙ read_back b)
 
--- ---- what the reader answers
+-- ---- what the reader returns
 
 of_elements : (ds : List Datum) → command_in (tuple (items_of ds)) ≡ elements_in ds
 unfolding command_in

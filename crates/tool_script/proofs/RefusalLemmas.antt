@@ -1,4 +1,4 @@
--- The line of the refusal of a text.
+-- The line of the error reply to a text.
 use Rattle.std.proofs.Common.{◌≡◌, List, [], ◌∷◌, ◌++◌, Some, ◌∙◌, ap, append_assoc}
 use Rattle.std.specs.Prelude.{codes}
 use Rattle.std.proofs.lemmas.List.Concat.{flat_map-append}
@@ -13,7 +13,7 @@ use Rattle.tool_script.specs.Shell.{refusal}
 use Rattle.tool_script.specs.Walks.{arguments}
 use Rattle.tool_script.proofs.TextLemmas.{error_bytes, four, tuple_text}
 
--- a fault's number, and where it is met
+-- the error code of a fault, and its byte offset
 pub place_line : (f : TextFault) → line (refusal f) ≡ codes "{error" ++ (behind_commas (arguments (Some (number_of f))) ++ (behind_commas (arguments (place_of f)) ++ codes "}.\n"))
 place_line f =
     let first = arguments (Some (number_of f)) in
@@ -25,7 +25,7 @@ place_line f =
     (append_assoc rest (codes "}") (46 ∷ 10 ∷ []) ∙ ap (λ l. l ++ codes "}.\n") split
     ∙ append_assoc (behind_commas first) (behind_commas place) (codes "}.\n"))
 
--- four parts, one after the other
+-- four parts appended one after the other
 pub put_four : (old a b c d p q r new : List ℕ) → p ≡ old ++ a → q ≡ p ++ b → r ≡ q ++ c → new ≡ r ++ d → new ≡ old ++ (a ++ (b ++ (c ++ d)))
 put_four old a b c d p q r new first second third fourth =
     fourth ∙ ap (λ l. l ++ d) (third ∙ ap (λ l. l ++ c) (second ∙ ap (λ l. l ++ b) first)) ∙ four old a b c d

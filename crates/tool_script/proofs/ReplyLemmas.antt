@@ -1,4 +1,4 @@
--- Replies are one.
+-- Replies are determined.
 use Rattle.std.proofs.Common.{◌≡◌, List, [], ◌∷◌, Option, refl, sym, ◌∙◌, subst, ap, inl, inr}
 use Rattle.term_core.specs.Datum.{Datum}
 use Rattle.part_core.specs.Settings.{is_ordered}
@@ -24,7 +24,7 @@ module _ (one_reading : HasOneReading) (not_refused : ReadIsNotRefused) (one_ref
       let same = one_reading d h.specification k.specification h.read k.read in
       λ i. λ object. one_meaning k.specification object (f object) (g object) (subst (λ (s : Specification). Means s object (f object)) same (h.means object)) (k.means object) i
 
-  -- and names one list of keys
+  -- a term names one list of keys
   planned_once : (o : Options) (d : Datum) (f g : Datum → Option Datum) (p q : Option (List Datum)) → IsMeant o d f p → IsMeant o d g q → p ≡ q
   planned_once o d f g p q h k =
       let same = one_reading d h.specification k.specification h.read k.read in
@@ -46,7 +46,7 @@ module _ (one_reading : HasOneReading) (not_refused : ReadIsNotRefused) (one_ref
   comes_once (Judging o d go) a b p q (v, is, here) (w, also, there) =
       given_once (go v) (go w) a b p q (ap go (judged_once o d v w is also)) here there
 
-  -- a term is replied once, and the script comes to one state
+  -- a term has one reply and leads to one state
   pub replied_once : (st : ScriptState) (d a b : Datum) (p q : ScriptState) → IsReply st d a p → IsReply st d b q → (a ≡ b) × (p ≡ q)
   replied_once st d a b p q (inl (c, is, here)) (inl (e, also, there)) =
       let same : course st st.current c ≡ course st st.current e = ap (course st st.current) (command_term_is_one c e (sym is ∙ also)) in

@@ -1,4 +1,4 @@
--- What commands make of the state of a script.
+-- What commands change in the state of a script.
 use Rattle.std.proofs.Common.{◌≡◌, ℕ, ℤ, ◌+◌, ◌<◌, List, refl, ap, sym, subst, ◌∙◌, Option, Some, None, arith}
 use Rattle.std.specs.Prelude.{true, false, is_some, IfSome}
 use Rattle.std.proofs.lemmas.Bool.{true≢false}
@@ -27,7 +27,7 @@ use Rattle.tool_script.proofs.ContinuationLemmas.{held_closed, held_let_go, held
 use Rattle.tool_script.proofs.CourseLemmas.{takes_in}
 use Rattle.tool_script.proofs.OptionLemmas.{options_named}
 
--- the table that is open
+-- the open table, if it is a set or a bag
 pub set_there : {S O A : Type 0} {s : Ghosts S A} (o : Ghosts O A) (t : open_type.OpenTable S A s) (state : Option OpenTable) → HasTable {S = S} {O = O} {A = A} {s = s} {o = o} (current.Unordered t) state → (there : OpenTable) × (state ≡ Some there) × IsOpen t there
 set_there o t None there = absurd there
 set_there o t (Some u) there = (u, refl, there)
@@ -45,7 +45,7 @@ none_there None none = refl
 none_there (Some u) none = absurd (true≢false none)
 
 module _ {S O A : Type 0} {s : Ghosts S A} {o : Ghosts O A} where
-  -- a script in its state, by its parts
+  -- a script is in its state if its fields are
   has_state : (script : script_type.Script S O A s o) (st : ScriptState) (now : Current S O A s o) (count : ℕ) (walks : List (Option (Continuation A)))
       → script.current ≡ now → script.count ≡ count → script.walks.items ≡ walks → st.count ≡ count → HasTable now st.current
       → IfSome (open_options now) (λ p. p.name < count) → AreHeld (open_options now) count walks st.walks → HasState script st
@@ -57,7 +57,7 @@ module _ {S O A : Type 0} {s : Ghosts S A} {o : Ghosts O A} where
         walks = subst (λ x. AreHeld (open_options x) script.count script.walks.items st.walks) (sym now_is) (subst (λ n. AreHeld (open_options now) n script.walks.items st.walks) (sym count_is) (subst (λ cs. AreHeld (open_options now) count cs st.walks) (sym walks_is) held));
       }
 
-  -- the table is closed
+  -- `close` while a table is open
   pub closed_step : (old new : script_type.Script S O A s o) (st : ScriptState) (t : OpenTable) (objects : List Datum) (cs : List (Option (Continuation A)))
       → HasState old st → st.current ≡ Some t → objects ≡ table_objects t.table
       → new.current ≡ current.NoTable → new.count ≡ old.count → new.walks.items ≡ cs → AreLetGo old.walks.items cs
@@ -69,7 +69,7 @@ module _ {S O A : Type 0} {s : Ghosts S A} {o : Ghosts O A} where
             (held_let_go old.count (open_options old.current) old.walks.items cs st.walks has.walks gone),
       )
 
-  -- there is none to be closed
+  -- `close` while no table is open
   pub unopened_step : (old new : script_type.Script S O A s o) (st : ScriptState) (cs : List (Option (Continuation A))) → HasState old st
       → old.current ≡ current.NoTable → new.current ≡ current.NoTable → new.count ≡ old.count → new.walks.items ≡ cs → AreLetGo old.walks.items cs
       → Takes (course st st.current Close) (error 65) (HasState new)
@@ -80,7 +80,7 @@ module _ {S O A : Type 0} {s : Ghosts S A} {o : Ghosts O A} where
       (held_let_go old.count (open_options old.current) old.walks.items cs st.walks has.walks gone) in
       subst (λ x. Takes (course st x Close) (error 65) (HasState new)) (sym (not_there s o st.current there)) (refl, state)
 
-  -- a table is opened
+  -- `open` while no table is open
   pub opened_step : (old new : script_type.Script S O A s o) (st : ScriptState) (kind : TableKind) (keypos parts sessions : ℤ) (p : Options) (now : Current S O A s o)
       → HasState old st → is_some st.current ≡ false
       → options_with old.count kind (number_within 1 65535 keypos) (number_within 1 64 parts) (number_within 1 16 sessions) ≡ Some p
@@ -102,7 +102,7 @@ module _ {S O A : Type 0} {s : Ghosts S A} {o : Ghosts O A} where
       opened_by made is state =
           subst (λ x. (boolean true ≡ (opening_of st x).0) × HasState new (opening_of st x).1) (sym is) (refl, state)
 
-  -- a session is replied what it selected
+  -- a session's request with a specification, or for a walk
   pub walked_step : (old new : script_type.Script S O A s o) (st : ScriptState) (t : OpenTable) (x y : Options) (IsNow : OpenTable → Type 0) (number : ℤ) (selection : Selection) (reply : Datum)
       → HasState old st → st.current ≡ Some t → open_options old.current ≡ Some x → open_options new.current ≡ Some y → y ≡ x
       → new.count ≡ old.count → ((u : OpenTable) → IsNow u → HasTable new.current (Some u))

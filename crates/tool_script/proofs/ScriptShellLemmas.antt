@@ -1,4 +1,5 @@
--- What a shell answers a text that spells terms, whose empty lines stand inside of none: what a script of them is replied.
+-- The output of a shell for a text that spells terms, with no empty line inside of a term: the replies to a script of
+-- these terms.
 use Rattle.std.proofs.Common.{◌≡◌, ◌≢◌, ◌⊎◌, ◌∙◌, ℕ, inl, inr, Bool, true, false, true≢false, List, [], ◌∷◌, ◌++◌, length, flat_map, refl, sym, ap, subst, append_assoc}
 use Rattle.std.specs.Prelude.{if◌then◌else◌}
 use Rattle.std.proofs.lemmas.List.{append-nil}
@@ -46,17 +47,17 @@ gives_up_empty (c ∷ begun) l is = by (is_empty l) (has_dot l) is
 
 -- ---- empty lines
 
--- as `IsUnbroken`, behind what is begun
+-- as `IsUnbroken`, after a pending text
 abbrev Unbroken : List ℕ → List ℕ → Type 0
 Unbroken begun input =
     (front blank rest : List ℕ) → input ≡ front ++ (blank ++ rest) → AreWholeLines (begun ++ front) → IsLineBefore blank rest → is_empty blank ≡ true
     → (ds : List Datum) × Spells (begun ++ front) ds
 
--- what is begun may go on, unless nothing is left
+-- the pending text may go on, unless nothing is left
 abbrev MayGoOn : List ℕ → List ℕ → Type 0
 MayGoOn begun input = AreWholeLines begun ⊎ (input ≡ [])
 
--- a line goes behind it
+-- a line is appended to the pending text
 unbroken_on : (begun l more : List ℕ) → Unbroken begun (l ++ more) → Unbroken (begun ++ l) more
 unbroken_on begun l more un = λ front blank rest is lines before empty.
     let found = un (l ++ front) blank rest (ap (λ m. l ++ m) is ∙ sym (append_assoc l front (blank ++ rest))) (subst AreWholeLines (append_assoc begun l front) lines) before empty in
@@ -76,14 +77,14 @@ joined (x ∷ []) [] h k = h
 joined (x ∷ []) (y ∷ ys) h k = k
 joined (x ∷ z ∷ xs) ys h k = joined (z ∷ xs) ys h k
 
--- what is begun spells terms
+-- the pending text spells terms
 unbroken_behind : (text more : List ℕ) (es : List Datum) → AreWholeLines text → Spells text es → Unbroken text more → Unbroken [] more
 unbroken_behind text more es lines spells un = λ front blank rest is whole before empty.
     let found = un front blank rest is (joined text front lines whole) before empty in
     let l = spells_behind text front found.0 es lines found.1 spells in
     (l.others, l.spelled)
 
--- it is an idle line
+-- the pending text is an idle line
 unbroken_idle : (l more : List ℕ) → AreWholeLines l → is_idle l ≡ true → OneLine l → Unbroken l more → Unbroken [] more
 unbroken_idle l more lines idle one un = λ front blank rest is whole before empty.
     let found = un front blank rest is (joined l front lines whole) before empty in
@@ -91,7 +92,7 @@ unbroken_idle l more lines idle one un = λ front blank rest is whole before emp
 
 -- ---- what is left
 
--- of these terms, behind those of the text that was replied
+-- the terms that are left after those of a text that was replied to
 record Rest (more : List ℕ) (ds es : List Datum) : Type 0 where
   others : List Datum
   joined : ds ≡ es ++ others
@@ -126,7 +127,7 @@ module _ (once : SpellsOne) where
 
 -- ---- lines of an input
 
--- its next line, and what is behind it
+-- the input with its next line split off
 record Lines (begun input : List ℕ) (ds : List Datum) : Type 0 where
   goes : MayGoOn (begun ++ first_line input) (behind_line input)
   spelled : Spells ((begun ++ first_line input) ++ behind_line input) ds
@@ -144,7 +145,7 @@ lines_of begun input ds may spells un = record {
   unbroken = unbroken_on begun (first_line input) (behind_line input) (subst (Unbroken begun) (sym (line_joined input)) un);
 }
 
--- where an empty line gives up what is begun, that spells terms
+-- if an empty line gives up the pending text, that text spells terms
 begun_spelled : (begun input : List ℕ) (ds : List Datum) → MayGoOn begun input → Spells (begun ++ input) ds → Unbroken begun input → is_empty (first_line input) ≡ true → (es : List Datum) × Spells begun es
 begun_spelled begun input ds (inr none) spells un empty = (ds, subst (λ m. Spells m ds) (ap (λ m. begun ++ m) none ∙ append-nil begun) spells)
 begun_spelled begun input ds (inl lines) spells un empty =
@@ -152,9 +153,9 @@ begun_spelled begun input ds (inl lines) spells un empty =
     let found = un [] (first_line input) (behind_line input) (sym whole) (subst AreWholeLines (sym (append-nil begun)) lines) (ap first_line whole, ap behind_line whole) empty in
     (found.0, subst (λ m. Spells m found.0) (append-nil begun) found.1)
 
--- ---- texts that are looked at
+-- ---- texts that are examined
 
--- the text is replied, and what is left stands behind it
+-- the terms of the text are replied to, and what is left of the terms follows them
 record Replied (st behind : ScriptState) (now left more : List ℕ) (ds : List Datum) : Type 0 where
   terms : List Datum
   replies : List Datum
@@ -163,7 +164,7 @@ record Replied (st behind : ScriptState) (now left more : List ℕ) (ds : List D
   none : left ≡ []
   rest : Rest more ds terms
 
--- or it is begun still
+-- the terms of the text are replied to, or the text stays pending
 data Comes (st behind : ScriptState) (text now left more : List ℕ) (ds : List Datum) : Type 0 where
   is_replied : Replied st behind now left more ds → Comes st behind text now left more ds
   is_begun : now ≡ [] → behind ≡ st → left ≡ text → Comes st behind text now left more ds
@@ -176,7 +177,7 @@ module _ (once : SpellsOne) (one : HasOneFault) where
   comes st behind text now left more ds (inr none) whole un (refused {f} wrong why) =
       absurd (wrong.unspelled ds (subst (λ m. Spells m ds) (ap (λ m. text ++ m) none ∙ append-nil text) whole))
 
-  -- what is given up spells terms
+  -- a text that is given up spells terms
   comes_up : (st behind : ScriptState) (text now left more : List ℕ) (ds es : List Datum) → Spells text es → MayGoOn text more → Spells (text ++ more) ds → Unbroken text more → Looked true st text now behind left → Replied st behind now left more ds
   comes_up st behind text now left more ds es spells may whole un (spelled {ds = fs} rs here replies) = record { terms = fs; replies = rs; replied = replies; written = refl; none = refl; rest = rest_behind once text more ds fs may whole here un }
   comes_up st behind text now left more ds es spells may whole un (cut_short not_given wrong) = absurd (true≢false not_given)
@@ -187,12 +188,12 @@ module _ (once : SpellsOne) (one : HasOneFault) where
   abbrev Answers : ScriptState → List Datum → List ℕ → Type 0
   Answers st ds out = (replies : List Datum) × AreReplies st ds replies × (out ≡ flat_map line replies)
 
-  -- behind a text that was replied
+  -- the replies after a text that was replied to
   answers_with : (st behind : ScriptState) (ds : List Datum) (now left out more : List ℕ) (r : Replied st behind now left more ds) → Answers behind r.rest.others out → Answers st ds (now ++ out)
   answers_with st behind ds now left out more r others =
       subst (λ d. Answers st d (now ++ out)) (sym r.rest.joined) (replied_with st behind r.terms r.rest.others r.replies (now ++ out) out r.replied (ap (λ m. m ++ out) r.written) others)
 
-  -- nothing is begun
+  -- nothing is pending
   fresh : (left more : List ℕ) → left ≡ [] → MayGoOn left more
   fresh left more none = inl (subst AreWholeLines (sym none) tt)
 

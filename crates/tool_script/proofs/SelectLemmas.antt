@@ -1,4 +1,4 @@
--- What a session is replied that walks its table.
+-- The reply to a session that walks its table.
 use Rattle.std.proofs.Common.{◌≡◌, ◌≢◌, ℕ, ℤ, pos, ◌<◌, List, [], ◌∷◌, ◌++◌, refl, ap, sym, subst, ◌∙◌, Option, Some, None, arith, length, get_or, set, option_map}
 use Rattle.std.specs.Prelude.{IsTrue, negsuc, if◌then◌else◌}
 use Rattle.std.proofs.lemmas.List.{set-get_or}
@@ -41,13 +41,13 @@ use Rattle.tool_script.proofs.ContinuationLemmas.{held_length, held_more, held_p
 
 -- ---- what a term is
 
--- one that is no specification is replied its fault, and nothing is done
+-- the reply to a term that is no specification is its fault, and nothing changes
 pub faulty : {A : Type 0} (o : Options) (sees : Views → Type 0) (walks : List (Option (Continuation A))) (d : Datum) (f : SpecFault) (go : Walked → (Datum → Option Datum) → Option (List Datum) → Step Walked) (reply : Datum) (count : ℕ) (w : Walked)
     → (f ≢ spec_fault.Memory) × (reply ≡ fault_term f) → IsRefusal f d → AreAt o sees count walks w
     → Takes (Judging w.table.options d (judged w (go w))) reply (AreAt o sees count walks)
 faulty o sees walks d f go reply count w told refused at = (Faulty f, (told.0, refused), told.1, at)
 
--- one that is, is replied what is done by what it means
+-- the reply to a term that is a specification depends on what it means
 pub meant : {A : Type 0} (o : Options) (before now : Views → Type 0) (old new : List (Option (Continuation A))) (d : Datum) (answer : Datum → Option Datum) (plan : Option (List Datum)) (go : Walked → (Datum → Option Datum) → Option (List Datum) → Step Walked) (reply : Datum) (count : ℕ) (w : Walked)
     → IsMeant o d answer plan → IsDone o before now old new (λ x. go x answer plan) reply → AreAt o before count old w
     → Takes (Judging w.table.options d (judged w (go w))) reply (AreAt o now count new)
@@ -109,7 +109,7 @@ abbrev walk_held : {A : Type 0} → Home → Query A → ℕ → Position → Li
 walk_held h q limit at kept =
     record { table = h.options.name; session = h.number; answer = answer_of q.code; plan = plan_of q h.options; limit = limit; at = at; kept = kept }
 
--- what is kept behind a piece
+-- the continuation that is kept after a piece
 behind_place : {A : Type 0} (h : Home) (q : Query A) (limit : ℕ) (at : Position) (kept : List Datum) (piece : Piece) (c : Continuation A) (count : ℕ)
     → IsWalkOf h q limit c → kept_of c.kept ≡ piece.kept → position_of c.at ≡ piece.at → IsAlong h q piece.at → h.options.name < count
     → IsPlace (Some h.options) count (Some c) (Some (behind_piece (walk_held h q limit at kept) piece))
@@ -129,7 +129,7 @@ behind_place h q limit at kept piece c count own kept_is at_is along named =
       );
     }
 
--- a step is replied as the definitions say of its piece
+-- the reply to a step is what the definitions say of its piece
 kept_step : {A : Type 0} (h : Home) (now : Views → Type 0) (old new : List (Option (Continuation A))) (q : Query A) (limit : ℕ) (at : Position) (kept : List Datum) (s : step_type.Step A) (v u : Views) (reply : Datum) (count : ℕ) (w : Walked) (given rest : List Datum) (later : Position)
     → Steps h q limit at kept s v u → IsPieceOf (record { given = given; kept = rest; at = later }) s → IsAlong h q later
     → IsKept s old new reply → IsAt h.options now w.table → h.options.name < count → AreHeld (Some h.options) count old w.walks
@@ -163,7 +163,7 @@ piece_done law h before now old new q limit at kept s reply alone some along fol
     let piece = piece_of (answer_of q.code) limit kept at (sights_from w.table (plan_of q h.options) at) in
     kept_step h now old new q limit at kept s there.table.views next.0 reply count w piece.given piece.kept piece.at next.2 done.0 done.1 kept_is (at_seen h now w.table next.0 next.1 done.2) there.named there.walks
 
--- ---- one that begins
+-- ---- a walk that begins
 
 starts_by : (plan : Option (List Datum)) (parts : ℕ) → 0 < parts → start_by plan 0 parts ≡ first_position plan
 starts_by None parts some = ap (λ b. if b then Position.InPart 0 None else Position.Over) (lt-ltb 0 parts some)
@@ -185,9 +185,9 @@ begun_done law h before now old new q limit s reply alone some follows kept_is =
     let done = piece_done law h before now old new q limit (first_position plan) [] s reply alone some (first_there plan h.options.parts some) (subst (λ (at : Position). Follows before now (Steps h q limit at [] s)) start follows) kept_is count w there in
     subst (λ (o : Options). (reply ≡ (piece_step w (begun o h.number limit (answer_of q.code) plan)).0) × AreAt h.options now count new (piece_step w (begun o h.number limit (answer_of q.code) plan)).1) (sym there.table.options) done
 
--- ---- one that goes on
+-- ---- a walk that goes on
 
--- no continuation is there
+-- the continuation does not exist
 pub stranger : {A : Type 0} (o : Options) (n : ℕ) (sees : Views → Type 0) (old new : List (Option (Continuation A))) (number : ℤ)
     → own_at old o.name n number ≡ None → new ≡ spent_at old o.name n number
     → IsSelected o n sees sees old new (SelectMore number) (error 62)
@@ -200,7 +200,7 @@ stranger o n sees old new (pos i) none spent = λ count w at.
 stranger o n sees old new (negsuc i) none spent = λ count w at.
     (refl, record { table = at.table; named = at.named; walks = subst (λ cs. AreHeld (Some o) count cs w.walks) (sym spent) at.walks })
 
--- what is held in a continuation's place
+-- the walk in the place of a continuation
 place_is : {A : Type 0} (o : Options) (count : ℕ) (c : Continuation A) (held : Option Held) → IsPlace (Some o) count (Some c) held → c.table ≡ o.name → IsWithin o c.query c.at
 place_is o count c None is same = absurd is
 place_is o count c (Some held) is same = (is.own (sym same)).1
@@ -209,7 +209,7 @@ own_held : (h : Home) {A : Type 0} (c : Continuation A) → c.table ≡ h.option
 own_held h c table_is session_is =
     λ i. record { table = table_is i; session = session_is i; answer = answer_of c.query.code; plan = plan_of c.query h.options; limit = c.limit; at = position_of c.at; kept = kept_of c.kept }
 
--- a session's own walk is one of its own
+-- a session takes only its own walks
 pub own_walk : {A : Type 0} (h : Home) (old : List (Option (Continuation A))) (number : ℤ) (c : Continuation A) → own_at old h.options.name h.number number ≡ Some c → IsOwn h c
 own_walk h old (negsuc i) c own = absurd (none-some c own)
 own_walk h old (pos i) c own =

@@ -60,7 +60,7 @@ all_at progress.End None left taken l lost whole = tt
 all_at progress.End (Some xs) None taken l lost whole = absurd lost
 all_at progress.End (Some xs) (Some ys) taken l lost whole = lost ∙ ap (λ m. taken ++ m) whole.1
 
--- what is left behind a line, where that is known
+-- what is left after a line, where that is known
 abbrev left_behind : Progress → Option (List ℕ) → List ℕ
 left_behind progress.End left = []
 left_behind progress.More None = []
@@ -70,7 +70,7 @@ may_left : (p : Progress) (left : Option (List ℕ)) → MayFollow p (left_behin
 may_left progress.End left = refl
 may_left progress.More left = tt
 
--- so the input is what was taken, the line and that
+-- the input is what was taken, the line, and what is left after it
 whole_with : (p : Progress) (known left after : Option (List ℕ)) (taken l : List ℕ) → Consumes known left taken → Consumes left after l → IsLine l p left → IfSome known (λ bytes. bytes ≡ taken ++ (l ++ left_behind p after))
 whole_with progress.End known left after taken l lost gone whole = at_end known (all_at progress.End known left taken l lost whole)
   where
@@ -87,7 +87,7 @@ whole_left None left taken lost = tt
 whole_left (Some xs) None taken lost = absurd lost
 whole_left (Some xs) (Some ys) taken lost = lost
 
--- what was begun stands in front of what is left
+-- the pending text comes before what is left
 apart_from : (known : Option (List ℕ)) (front begun rest : List ℕ) → IfSome known (λ bytes. bytes ≡ (front ++ begun) ++ rest) → IfSome known (λ bytes. bytes ≡ front ++ (begun ++ rest))
 apart_from None front begun rest is = tt
 apart_from (Some xs) front begun rest is = is ∙ append_assoc front begun rest
@@ -122,7 +122,7 @@ leads_given : (st : ScriptState) (begun l now : List ℕ) (behind : ScriptState)
 leads_given st begun l now behind left is looked = λ rest out after before goes.
     given_up (ap (effect_of begun) before.0 ∙ is) looked (subst (λ xs. Goes behind left xs out after) (sym before.1) goes)
 
--- ---- the text that is looked at next
+-- ---- the text that is examined next
 
 on_from : (begun l rest text : List ℕ) → IsLineBefore l rest → IsLookedAtNext (begun ++ l) rest text → IsLookedAtNext (begun ++ first_line (l ++ rest)) (behind_line (l ++ rest)) text
 on_from begun l rest text before next =
@@ -145,7 +145,7 @@ by_end : (begun : List ℕ) → 0 < length begun → IsLookedAtNext begun [] beg
 by_end [] some = absurd (omega (arith, some))
 by_end (b ∷ begun) some = by_giving_up refl
 
--- what a line comes to is what is looked at next there
+-- the lines that are appended at a line come from the text that is examined next
 first_there : (st : ScriptState) (begun l rest now : List ℕ) → IsLineBefore l rest → ((text : List ℕ) → IsLookedAtNext begun (l ++ rest) text → IsLookedAtNext [] (begun ++ (l ++ rest)) text)
     → (now ≡ []) ⊎ ((text : List ℕ) × IsLookedAtBy begun l text × FirstReplies st text now) → AreFirstReplies st (begun ++ (l ++ rest)) now
 first_there st begun l rest now before next (inl none) = inl none
@@ -153,7 +153,7 @@ first_there st begun l rest now before next (inr (text, by, first)) = inr (text,
 
 -- ---- the end
 
--- what is begun is given up at the end of the input
+-- the pending text is given up at the end of the input
 ends_given : (st : ScriptState) (begun now : List ℕ) (behind : ScriptState) → 0 < length begun → Looked true st begun now behind [] → Goes st begun [] (now ++ []) behind
 ends_given st [] now behind some looked = absurd (omega (arith, some))
 ends_given st (b ∷ begun) now behind some looked = given_up refl looked ended
@@ -178,7 +178,7 @@ read_stops known old now lines fault.TooSmall is h = absurd is
 read_stops known old now lines fault.BadOptions is h = absurd is
 read_stops known old now lines fault.WriteFailed is h = absurd is
 
--- what is held is written
+-- the gathered lines are written
 holds_written : (known old now later : Option (List ℕ)) (lines : List ℕ) → HoldsFirst known old now lines → Appends now later lines → WritesFirst known old later
 holds_written known old now later lines h written =
     record { front = h.front; rest = h.rest; whole = h.whole; out = h.out; more = h.more; st = h.st; answered = h.answered; first = h.first; gained = passes_written old now later (h.out ++ h.more) lines h.put written }
@@ -203,7 +203,7 @@ none_lost : (k : Option (List ℕ)) → Consumes k k []
 none_lost None = tt
 none_lost (Some xs) = refl
 
--- no memory was given before anything was read
+-- memory ran out before anything was read
 pub stops_first : (known old : Option (List ℕ)) → WritesFirst known old old
 stops_first known old =
     record { front = []; rest = left_behind progress.More known; whole = whole_left known known [] (none_lost known); out = []; more = []; st = beginning; answered = λ rest more after goes. goes; first = inl refl; gained = appends_none old }
@@ -283,7 +283,7 @@ module _ {S O A : Type 0} {s : Ghosts S A} {o : Ghosts O A} where
   text_stops old text ds a b lines more fault.TooSmall spells stops = absurd stops
   text_stops old text ds a b lines more fault.BadOptions spells stops = absurd stops
 
-  -- nothing was put
+  -- nothing was appended
   pub text_stays : (old : script_type.Script S O A s o) (text : List ℕ) (a : Option (List ℕ)) (lines more : List ℕ) (f : ToolFault) → f ≡ fault.Memory → more ≡ lines → StopsText old text a a lines more f
   text_stays old text a lines more f is same =
       subst (StopsText old text a a lines more) (sym is) (λ st has. ([], inl refl, passes_put a lines [] more (same ∙ sym (append-nil lines))))
@@ -323,7 +323,7 @@ module _ {S O A : Type 0} {s : Ghosts S A} {o : Ghosts O A} where
       let f = h st has in
       (f.0, f.1, f.3, leads_given st begun l f.0 f.1 [] is f.2, f.4)
 
-  -- nothing is put
+  -- an idle line appends nothing
   pub line_passed : (old : script_type.Script S O A s o) (begun l : List ℕ) (a : Option (List ℕ)) (lines : List ℕ) → effect_of begun l ≡ effect.Passes → IsLineAnswered old old begun l false a a lines lines
   line_passed old begun l a lines is = λ st has. ([], st, has, leads_passed st begun l is, passes_none a lines)
 
@@ -331,7 +331,7 @@ module _ {S O A : Type 0} {s : Ghosts S A} {o : Ghosts O A} where
   line_kept old begun l a lines is =
       (λ st has. (has, leads_kept st begun l is), on_kept begun l is, subst (λ m. Passes a a m lines) (append-nil lines) (passes_none a lines))
 
-  -- where memory ran out, of the text that is looked at by the line
+  -- memory ran out at a line, so of the text that is examined there
   text_by : (old : script_type.Script S O A s o) (begun l text : List ℕ) (a b : Option (List ℕ)) (lines more : List ℕ) (f : ToolFault) → IsLookedAtBy begun l text → StopsText old text a b lines more f → StopsLine old begun l a b lines more f
   text_by old begun l text a b lines more fault.Memory by stops = λ st has.
       let f = stops st has in
@@ -431,7 +431,7 @@ module _ {S O A : Type 0} {s : Ghosts S A} {o : Ghosts O A} where
         put = passes_more old now later t.out lines f.0 more t.put f.4;
       }
 
-  -- the line that was taken is what stands behind what was begun
+  -- the line that was taken is what follows the pending text
   line_there : (before behind : script_type.Script S O A s o) (p : Progress) (left after_left now later : Option (List ℕ)) (begun text lines more : List ℕ) (size : ℕ) (is_kept is : Bool) → size ≡ length begun → is_kept ≡ is
       → (t : TakesLine left after_left begun text p) → IsLineAnswered before behind (take size text) (drop size text) is_kept now later lines more → IsLineAnswered before behind begun t.line is now later lines more
   line_there before behind p left after_left now later begun text lines more size is_kept is sized kept t h =
@@ -441,7 +441,7 @@ module _ {S O A : Type 0} {s : Ghosts S A} {o : Ghosts O A} where
       (subst (λ m. IsLineAnswered before behind begun m is_kept now later lines more) rest
       (subst (λ m. IsLineAnswered before behind m (drop size text) is_kept now later lines more) front h))
 
-  -- a line was taken and answered: it is begun with what was begun, or nothing is
+  -- a line was taken and processed: it joins the pending text, or nothing is pending
   pub next_stands : (before behind : script_type.Script S O A s o) (p : Progress) (known left after_left old now later : Option (List ℕ)) (begun text kept lines more : List ℕ) (size : ℕ) (is_kept : Bool) → size ≡ length begun → kept ≡ (if is_kept then text else [])
       → TakesLine left after_left begun text p → IsLineAnswered before behind (take size text) (drop size text) is_kept now later lines more
       → Stands before progress.More known left old now begun lines → Stands behind p known after_left old later kept more
@@ -452,7 +452,7 @@ module _ {S O A : Type 0} {s : Ghosts S A} {o : Ghosts O A} where
       let answered = line_there before behind p left after_left now later begun text lines more size false false sized refl takes h in
       subst (λ m. Stands behind p known after_left old later m more) (sym is) (next_cleared before behind p known left after_left old now later begun takes.line lines more t takes.lost takes.whole answered)
 
-  -- what a shell has come to behind a line that was answered
+  -- where a shell is after a line that was processed
   pub stood_at : (before behind : script_type.Script S O A s o) (left after_left now later : Option (List ℕ)) (begun kept lines more : List ℕ) (r : Result Progress ToolFault) (p : Progress) → r ≡ Ok p
       → IfOk r (λ q. (known old : Option (List ℕ)) → Stands before progress.More known left old now begun lines → Stands behind q known after_left old later kept more)
       → (known old : Option (List ℕ)) → Stands before progress.More known left old now begun lines → Stands behind p known after_left old later kept more

@@ -16,7 +16,7 @@ use Rattle.tables.specs.OneThread.{TableState, opened}
 use Rattle.walks.specs.OneThread.{table_objects}
 use Rattle.tool_script.specs.State.{IsAt}
 
--- a fault that isn't that of the options is want of memory
+-- a fault of opening that is not about the options is out of memory
 pub memory_alone : {T : Type 0} (P : Type 0) (r : Result T OpenFault) → P → (IsErrOf r open_fault.BadOptions → ¬ P) → IfErr r (λ fault. fault ≡ open_fault.Memory)
 memory_alone P (Ok t) holds refused = tt
 memory_alone P (Err open_fault.Memory) holds refused = refl

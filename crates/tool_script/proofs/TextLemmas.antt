@@ -20,9 +20,9 @@ use Rattle.tool_script.specs.Script.{error, key_or_end}
 use Rattle.tool_script.specs.Replies.{behind_commas}
 use Rattle.tool_script.specs.Walks.{arguments, fault_term, piece_term}
 
--- ---- what is written as it stands
+-- ---- what is written as it is
 
--- bytes that are a line are put at the end
+-- the bytes of a line are appended
 pub put_line_as : {T E : Type 0} (r : Result T E) (old new bytes text : List ℕ) → text ≡ bytes → new ≡ (if is_ok r then old ++ bytes else old) → OnOk r (new ≡ old ++ text)
 put_line_as (Ok v) old new bytes text is put = put ∙ ap (λ l. old ++ l) (sym is)
 put_line_as (Err f) old new bytes text is put = tt
@@ -49,7 +49,7 @@ pub number_bytes : (n : ℕ) → n < 2 ^ 64 → text_of (integer (pos n)) ≡ de
 unfolding text_as
 number_bytes n small = decimal_bytes n small
 
--- ---- refusals
+-- ---- errors
 
 pub error_bytes : text_of (atom (codes "error")) ≡ codes "error"
 unfolding text_as is_reserved encode
@@ -82,7 +82,7 @@ list_text d ds =
     list_bytes forms.Canonical (d ∷ ds) None (omega arith) tt refl ∙ ap (λ (l : List ℕ). open_bracket ∷ (l ++ close_bracket ∷ [])) items
     ∙ ap (λ (l : List ℕ). open_bracket ∷ l) (append_assoc text rest (close_bracket ∷ []))
 
--- its parts are put at the end
+-- the parts of a list are appended
 pub list_put : (old between more new : List ℕ) (d : Datum) (ds : List Datum) → between ≡ old ++ (codes "[" ++ (text_of d ++ [])) → more ≡ between ++ behind_commas ds → new ≡ more ++ codes "]" → new ≡ old ++ text_of (cells (d ∷ ds) nil)
 list_put old between more new d ds first second third =
     let text = text_of d in
@@ -92,7 +92,7 @@ list_put old between more new d ds first second third =
     ∙ append_assoc old (codes "[" ++ text) (rest ++ codes "]")
     ∙ ap (λ l. old ++ l) (append_assoc (codes "[") text (rest ++ codes "]") ∙ sym (list_text d ds))
 
--- ---- what is put at the end part by part
+-- ---- what is appended part by part
 
 pub four : (o a b c d : List ℕ) → (((o ++ a) ++ b) ++ c) ++ d ≡ o ++ (a ++ (b ++ (c ++ d)))
 four o a b c d =
@@ -101,7 +101,7 @@ four o a b c d =
 five : (o a b c d e : List ℕ) → ((((o ++ a) ++ b) ++ c) ++ d) ++ e ≡ o ++ (a ++ (b ++ (c ++ (d ++ e))))
 five o a b c d e = append_assoc (((o ++ a) ++ b) ++ c) d e ∙ four o a b c (d ++ e)
 
--- five parts, one after the other
+-- five parts appended one after the other
 pub put_five : (old a b c d e p q r s new : List ℕ) → p ≡ old ++ a → q ≡ p ++ b → r ≡ q ++ c → s ≡ r ++ d → new ≡ s ++ e → new ≡ old ++ (a ++ (b ++ (c ++ (d ++ e))))
 put_five old a b c d e p q r s new first second third fourth fifth =
     fifth ∙ ap (λ l. l ++ e) (fourth ∙ ap (λ l. l ++ d) (third ∙ ap (λ l. l ++ c) (second ∙ ap (λ l. l ++ b) first)))
@@ -127,7 +127,7 @@ piece_line ds n =
     (ap (λ (l : List ℕ). ((comma ∷ l) ++ close_brace ∷ []) ++ 46 ∷ 10 ∷ []) (append-nil number)
     ∙ ap (λ (l : List ℕ). comma ∷ l) (append_assoc number (close_brace ∷ []) (46 ∷ 10 ∷ []))))
 
--- a fault and what stands behind it
+-- a specification's fault and its arguments
 pub fault_line : (f : SpecFault) → line (fault_term f) ≡ codes "{error" ++ (behind_commas (arguments (Some (number_of f))) ++ (behind_commas (arguments (clause_of f)) ++ (behind_commas (arguments (variable_of f)) ++ codes "}.\n")))
 fault_line f =
     let first = arguments (Some (number_of f)) in

@@ -1,4 +1,4 @@
--- What walks by keys are replied.
+-- The replies to walks by keys.
 use Rattle.std.proofs.Common.{◌≡◌, ◌≢◌, ◌<◌, inl, inr, refl, ap, ◌∙◌, Option, Err, arith}
 use Rattle.std.specs.Prelude.{IsTrue}
 use Rattle.term_core.specs.Datum.{Datum}

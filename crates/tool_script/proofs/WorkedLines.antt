@@ -1,4 +1,4 @@
--- Lines worked out: what each does behind what is begun. A wrong definition fails here before any proof.
+-- Lines worked out: what each does after a pending text. A wrong definition fails here before any proof.
 use Rattle.std.proofs.Common.{◌≡◌, [], refl}
 use Rattle.std.specs.Prelude.{codes, false}
 use Rattle.tool_script.specs.declared.line.Effect.TheVariants as effect
@@ -6,7 +6,7 @@ use Rattle.tool_script.specs.Line.{first_line, behind_line, effect_of, has_dot, 
 use Rattle.tool_script.specs.Shell.{IsLookedAtNext}
 use Rattle.tool_script.specs.Shell.IsLookedAtNext.{by_dot, by_giving_up, behind_line_begun}
 
--- a command in its line is looked at, and so is the last one without a line feed
+-- a command on its line is examined, and so is the last line without a line feed
 whole : effect_of [] (codes "{close}.\n") ≡ effect.LooksAt
 whole = refl
 
@@ -16,14 +16,14 @@ last = refl
 in_front_of_comment : effect_of [] (codes "{close}.% all\n") ≡ effect.LooksAt
 in_front_of_comment = refl
 
--- what has no dot goes on, and so does a dot inside a number or a name
+-- a line without a dot goes on, and so does one with a dot inside a number or a name
 begun : effect_of [] (codes "{insert,0,\n") ≡ effect.GoesOn
 begun = refl
 
 inside : has_dot (codes "{a.b,1.5}\n") ≡ false
 inside = refl
 
--- nothing is begun by white space, a comment or the end of the input
+-- white space, a comment or the end of the input begins no pending text
 blank : effect_of [] (codes " \t\n") ≡ effect.Passes
 blank = refl
 
@@ -33,14 +33,14 @@ comment = refl
 end : effect_of [] [] ≡ effect.Passes
 end = refl
 
--- behind what is begun a comment is no empty line, be there a dot in it or not
+-- after a pending text a comment is not an empty line, with or without a dot in it
 comment_behind : effect_of (codes "{insert,0,\n") (codes "% the object\n") ≡ effect.GoesOn
 comment_behind = refl
 
 comment_with_dot : effect_of (codes "{insert,0,\n") (codes "% the object.\n") ≡ effect.LooksAt
 comment_with_dot = refl
 
--- what is begun is given up by an empty line and by the end of the input
+-- the pending text is given up at an empty line and at the end of the input
 empty_behind : effect_of (codes "{insert,0,\n") (codes "\n") ≡ effect.GivesUp
 empty_behind = refl
 
@@ -60,7 +60,7 @@ unended = refl
 nothing : behind_line (codes "b.") ≡ []
 nothing = refl
 
--- whole lines end with a line feed, and none are whole
+-- whole lines end with a line feed, and no bytes are whole lines too
 two_lines : AreWholeLines (codes "{close}.\n% all.\n")
 two_lines = refl
 
@@ -70,7 +70,7 @@ no_lines = tt
 cut_line : AreWholeLines (codes "{close}.\n{cl") → ⊥
 cut_line is = absurd (cc)
 
--- the text that is looked at next: a command over two lines, and one that an empty line gives up
+-- the text that is examined next: a command over two lines, and one that an empty line gives up
 over_lines : IsLookedAtNext [] (codes "{close\n}.\n{close}.\n") (codes "{close\n}.\n")
 over_lines = behind_line_begun refl (by_dot refl)
 

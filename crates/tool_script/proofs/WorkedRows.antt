@@ -21,12 +21,12 @@ use Rattle.tool_script.specs.Replied.{course}
 use Rattle.tool_script.specs.Script.{ScriptState, beginning, error}
 use Rattle.tool_script.proofs.ReadingLemmas.{command_in, elements_of, read_back}
 
--- what a command comes to that judges no term
+-- the step of a command that judges no term
 abbrev settled : ScriptState → Course ScriptState → Step ScriptState
 settled st (Settled s) = s
 settled st (Judging o d go) = (error 65, st)
 
--- the replies to commands, from a state on
+-- the replies to commands, from a state
 abbrev replied : ScriptState → List Command → List Datum
 replied st [] = []
 replied st (c ∷ cs) =
@@ -35,7 +35,7 @@ replied st (c ∷ cs) =
 abbrev replies : List Command → List Datum
 replies = replied beginning
 
--- no command where none is read
+-- a term from which no command is read is the term of none
 none_read : (d : Datum) → command_in d ≡ None → IsNoCommand d
 none_read d none = λ c is. absurd (none-some c (sym none ∙ ap command_in is ∙ read_back c))
 
@@ -66,7 +66,7 @@ opens kind keypos parts sessions = Open kind (pos keypos) (pos parts) (pos sessi
 abbrev does : ℕ → Ask → Command
 does n ask = Session (pos n) ask
 
--- ---- what isn't opened
+-- ---- tables that can't be opened
 
 one_part : replies (opens OrderedSet 1 2 1 ∷ []) ≡ error 60 ∷ []
 one_part = refl
@@ -74,7 +74,7 @@ one_part = refl
 no_place : replies (opens Set 0 1 1 ∷ opens Set 65536 1 1 ∷ opens Set 1 65 1 ∷ opens Set 1 1 17 ∷ Open Set (negsuc 0) (pos 1) (pos 1) ∷ []) ≡ error 60 ∷ error 60 ∷ error 60 ∷ error 60 ∷ error 60 ∷ []
 no_place = refl
 
--- ---- what is no command
+-- ---- terms that are no commands
 
 no_heap : IsNoCommand (called (codes "open") (word (codes "heap") ∷ key 1 ∷ key 1 ∷ key 1 ∷ []))
 unfolding command_in elements_of
@@ -96,7 +96,7 @@ no_argument : IsNoCommand (called (codes "insert") (key 0 ∷ []))
 unfolding command_in elements_of
 no_argument = none_read _ refl
 
--- ---- the order of refusals
+-- ---- the order of checks
 
 none_open : replies (does 0 (Lookup (key 1)) ∷ Close ∷ []) ≡ error 65 ∷ error 65 ∷ []
 none_open = refl
@@ -149,12 +149,12 @@ bag_session kind =
     ∷ does 0 (Lookup (key 1)) ∷ does 0 (InsertNew (two 1 (word (codes "z")))) ∷ does 0 (DeleteObject a)
     ∷ does 0 (Take (key 1)) ∷ Close ∷ []
 
--- an equal object changes nothing, and keeps its place
+-- in a bag an equal object changes nothing, and keeps its place
 of_a_bag : replies (bag_session Bag) ≡ yes ∷ yes ∷ yes ∷ yes ∷ yes ∷ list (a ∷ b ∷ []) ∷ not_so ∷ yes ∷ list (b ∷ []) ∷ list (c ∷ []) ∷ []
 unfolding reply_of after datum_cmp key_hash walk_order
 of_a_bag = refl
 
--- an equal object is one more
+-- in a duplicate bag an equal object is added
 of_a_duplicate_bag : replies (bag_session DuplicateBag) ≡ yes ∷ yes ∷ yes ∷ yes ∷ yes ∷ list (a ∷ b ∷ a ∷ []) ∷ not_so ∷ yes ∷ list (b ∷ []) ∷ list (c ∷ []) ∷ []
 unfolding reply_of after datum_cmp key_hash walk_order
 of_a_duplicate_bag = refl
@@ -165,7 +165,7 @@ fixed_set : replies (opens Set 1 1 2 ∷ does 0 (Insert (one 1)) ∷ does 0 (Ins
 unfolding reply_of after datum_cmp key_hash walk_order
 fixed_set = refl
 
--- a session that leaves releases its fixes, and is none of the table's any more
+-- a session that leaves releases its fixes, and can't use the table any more
 left : replies (opens Set 1 1 2 ∷ does 0 (Insert (one 1)) ∷ does 0 Fix ∷ does 0 Fix ∷ does 1 (Delete (key 1)) ∷ does 0 Leave ∷ does 1 (Next (key 1)) ∷ does 0 Leave ∷ does 0 (Lookup (key 1)) ∷ []) ≡ yes ∷ yes ∷ yes ∷ yes ∷ yes ∷ yes ∷ error 53 ∷ error 61 ∷ error 61 ∷ []
 unfolding reply_of after datum_cmp key_hash walk_order
 left = refl

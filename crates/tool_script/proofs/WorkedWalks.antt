@@ -48,7 +48,7 @@ step_in (Judging o d go) (judges c v) = go v
 abbrev step_by : ScriptState → Line → Step ScriptState
 step_by st l = step_in (course st st.current (command_in l)) l
 
--- the replies to lines, from a state on
+-- the replies to lines, from a state
 abbrev replied : ScriptState → List Line → List Datum
 replied st [] = []
 replied st (l ∷ ls) = (step_by st l).0 ∷ replied (step_by st l).1 ls
@@ -56,7 +56,7 @@ replied st (l ∷ ls) = (step_by st l).0 ∷ replied (step_by st l).1 ls
 abbrev replies : List Line → List Datum
 replies = replied beginning
 
--- the term that is judged is so
+-- the verdict of a line is one on the term that its command judges
 abbrev IsJudged : Course ScriptState → Line → Type 0
 IsJudged (Settled s) l = Unit {0}
 IsJudged (Judging o d go) (plain c) = ⊥
@@ -72,7 +72,7 @@ comes (Settled s) l judged = (refl, refl)
 comes (Judging o d go) (plain c) judged = absurd judged
 comes (Judging o d go) (judges c v) judged = (v, judged, (refl, refl))
 
--- these are the replies to the lines' terms
+-- the replies that are computed are the replies to the lines' terms
 are_replied : (st : ScriptState) (ls : List Line) → AreJudged st ls → AreReplies st (map (λ l. command_term (command_in l)) ls) (replied st ls)
 are_replied st [] judged = tt
 are_replied st (l ∷ ls) judged =
@@ -112,7 +112,8 @@ yes_each ns = map (λ n. yes) ns
 abbrev program : List Datum → List Instr → Program
 program ds is = record { slots = 0; constants = ds; instructions = is; frames = []; around = alone }
 
--- the code of [{{'$1'},[],['$1']}], but for its match of tuples of one element, which all objects here are
+-- the specification [{{'$1'},[],['$1']}]; its code below leaves out the match of tuples of one element, which all
+-- objects here are
 abbrev query : Datum
 query =
     list (tuple (items_of (tuple (items_of (atom (codes "$1") ∷ [])) ∷ nil ∷ list (atom (codes "$1") ∷ []) ∷ [])) ∷ [])
@@ -143,13 +144,13 @@ counted_in_order : replies (opens OrderedSet 1 1 1 ∷ (inserts (1 ∷ 2 ∷ 3 �
 unfolding reply_of after datum_cmp key_hash answer_of
 counted_in_order = refl
 
--- ---- pieces of a set: what is put into a class that is passed is not met
+-- ---- pieces of a set: an object inserted into a class that the walk has passed is not met
 
 in_pieces : replies (opens Set 1 1 2 ∷ (inserts (1 ∷ 2 ∷ 3 ∷ 4 ∷ 5 ∷ []) ++ does 0 Fix ∷ selects_some 0 2 ∷ does 1 (Delete (key 3)) ∷ does 1 (Insert (one 9)) ∷ does 1 (Insert (one 6)) ∷ more 0 0 ∷ more 0 1 ∷ more 0 2 ∷ more 0 2 ∷ [])) ≡ yes ∷ (yes_each (1 ∷ 2 ∷ 3 ∷ 4 ∷ 5 ∷ []) ++ yes ∷ piece_term (key 1 ∷ key 2 ∷ []) 0 ∷ yes ∷ yes ∷ yes ∷ piece_term (key 4 ∷ key 5 ∷ []) 1 ∷ piece_term (key 6 ∷ []) 2 ∷ end ∷ error 62 ∷ [])
 unfolding reply_of after datum_cmp key_hash answer_of
 in_pieces = refl
 
--- an answer past the limit is kept, also where its object goes
+-- an answer past the limit is kept for the next piece, even if its object is deleted
 kept : replies (opens Set 1 1 2 ∷ (inserts (1 ∷ 9 ∷ 17 ∷ []) ++ does 0 Fix ∷ selects_some 0 2 ∷ does 1 (Delete (key 17)) ∷ more 0 0 ∷ more 0 1 ∷ [])) ≡ yes ∷ (yes_each (1 ∷ 9 ∷ 17 ∷ []) ++ yes ∷ piece_term (key 1 ∷ key 9 ∷ []) 0 ∷ yes ∷ piece_term (key 17 ∷ []) 1 ∷ end ∷ [])
 unfolding reply_of after datum_cmp key_hash answer_of
 kept = refl
@@ -160,7 +161,7 @@ in_order : replies (opens OrderedSet 1 1 1 ∷ (inserts (10 ∷ 20 ∷ 30 ∷ []
 unfolding reply_of after datum_cmp key_hash answer_of
 in_order = refl
 
--- ---- nothing there; limits, and the order of refusals
+-- ---- walks without objects; limits, and the order of checks
 
 none_there : replies (opens Set 1 1 1 ∷ selects_some 0 1 ∷ selects_some 0 0 ∷ selects (pos 0) (SelectLimit nil (negsuc 0)) (Faulty fault.NotAList) ∷ selects (pos 1) (SelectLimit nil (pos 0)) (Faulty fault.NotAList) ∷ selects (pos 0) (Select nil) (Faulty (fault.Unbound 0 3)) ∷ more 0 0 ∷ []) ≡ yes ∷ end ∷ error 63 ∷ error 63 ∷ error 61 ∷ called (codes "error") (key 16 ∷ key 0 ∷ key 3 ∷ []) ∷ error 62 ∷ []
 unfolding reply_of after datum_cmp key_hash answer_of
@@ -169,7 +170,7 @@ none_there = refl
 none_open : replies (selects_some 0 1 ∷ more 0 0 ∷ []) ≡ error 65 ∷ error 65 ∷ []
 none_open = refl
 
--- ---- a set in two parts, and objects that go
+-- ---- a set in two parts, and objects that are deleted
 
 two_parts : replies (opens Set 1 2 1 ∷ (inserts (1 ∷ 2 ∷ 3 ∷ 4 ∷ []) ++ selects_some 0 3 ∷ more 0 0 ∷ selects (pos 0) (SelectDelete query) (past 2) ∷ more 0 1 ∷ plain Close ∷ [])) ≡ yes ∷ (yes_each (1 ∷ 2 ∷ 3 ∷ 4 ∷ []) ++ piece_term (key 2 ∷ key 4 ∷ key 1 ∷ []) 0 ∷ piece_term (key 3 ∷ []) 1 ∷ key 2 ∷ end ∷ list (one 2 ∷ one 1 ∷ []) ∷ [])
 unfolding reply_of after datum_cmp key_hash answer_of walk_order
@@ -179,7 +180,7 @@ removed_in_order : replies (opens OrderedSet 1 1 1 ∷ (inserts (1 ∷ 2 ∷ 3 �
 unfolding reply_of after datum_cmp key_hash answer_of walk_order
 removed_in_order = refl
 
--- ---- sessions and tables that a continuation isn't of
+-- ---- continuations of other sessions and tables
 
 strangers : replies (opens Set 1 1 2 ∷ (inserts (1 ∷ 2 ∷ []) ++ does 1 Fix ∷ selects_some 1 1 ∷ does 0 (Delete (key 1)) ∷ does 0 (Next (key 1)) ∷ does 1 Leave ∷ does 0 (Next (key 1)) ∷ more 1 0 ∷ more 0 0 ∷ does 0 Unfix ∷ plain Close ∷ opens Set 1 1 2 ∷ more 1 0 ∷ more 1 (1) ∷ selects (pos 1) (SelectMore (negsuc 0)) first_element ∷ [])) ≡ yes ∷ (yes_each (1 ∷ 2 ∷ []) ++ yes ∷ piece_term (key 1 ∷ []) 0 ∷ yes ∷ key 2 ∷ yes ∷ error 53 ∷ error 61 ∷ error 62 ∷ error 52 ∷ list (one 2 ∷ []) ∷ yes ∷ error 62 ∷ error 62 ∷ error 62 ∷ [])
 unfolding reply_of after datum_cmp key_hash answer_of walk_order
@@ -213,7 +214,7 @@ named_in_order : replies (opens OrderedSet 1 1 1 ∷ (inserts (1 ∷ 2 ∷ []) +
 unfolding reply_of after datum_cmp key_hash answer_of
 named_in_order = refl
 
--- in pieces, and objects that go
+-- walks by named keys in pieces, with objects that are deleted
 named_in_pieces : replies (opens Set 1 2 1 ∷ (inserts (1 ∷ 2 ∷ 3 ∷ []) ++ selects (pos 0) (SelectLimit names (pos 1)) (named (2 ∷ 1 ∷ [])) ∷ does 0 (Delete (key 1)) ∷ more 0 0 ∷ plain Close ∷ [])) ≡ yes ∷ (yes_each (1 ∷ 2 ∷ 3 ∷ []) ++ piece_term (word (codes "two") ∷ []) 0 ∷ yes ∷ end ∷ list (one 2 ∷ one 3 ∷ []) ∷ [])
 unfolding reply_of after datum_cmp key_hash answer_of walk_order
 named_in_pieces = refl
@@ -226,7 +227,8 @@ pair n cs = tuple (items_of (key n ∷ word cs ∷ []))
 abbrev whole : Verdict
 whole = Meant (answer_of (program [] (instr.Load ∷ instr.Answer ∷ []))) None
 
--- the code of [{{'$1',a},[],[true]}], but for its match of tuples of two elements, which all objects here are
+-- the meaning of [{{'$1',a},[],[true]}] by its code, without the match of tuples of two elements, which all objects
+-- here are
 abbrev is_a : Verdict
 is_a =
     Meant (answer_of (program (word (codes "a") ∷ []) (instr.Load ∷ instr.Field 2 ∷ instr.Const 0 ∷ instr.Call (function.Comparison comparison.Equal) 2 5 ∷ instr.Answer ∷ instr.NoAnswer ∷ []))) None

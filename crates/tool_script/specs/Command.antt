@@ -5,7 +5,7 @@ use Rattle.term_core.specs.Datum.Datum.{integer, atom, tuple}
 use Rattle.part_core.specs.declared.kind.TableKind.{TableKind}
 use Rattle.part_core.specs.declared.kind.TableKind.TheVariants.{Set, OrderedSet, Bag, DuplicateBag}
 
--- what a session asks of the table
+-- what a session requests of the table, other than a walk
 pub data Ask : Type 0 where
   Insert : Datum → Ask
   InsertNew : Datum → Ask
@@ -20,9 +20,10 @@ pub data Ask : Type 0 where
   First : Ask
   Next : Datum → Ask
 
--- What a session asks by a specification, or of a walk that it began: all answers (ets:select/2); at most so many at
--- once (ets:select/3); those that go on behind a piece, by the number of its continuation (ets:select/1); how many
--- objects are answered true (ets:select_count/2); that these go (ets:select_delete/2).
+-- What a session requests with a specification, or of a walk that it began: all answers (ets:select/2); at most a given
+-- number at once (ets:select/3); the answers that follow a piece, by the number of its continuation (ets:select/1); the
+-- number of objects for which the answer is true (ets:select_count/2); the deletion of these objects
+-- (ets:select_delete/2).
 pub data Selection : Type 0 where
   Select : Datum → Selection
   SelectLimit : Datum → ℤ → Selection
@@ -30,8 +31,8 @@ pub data Selection : Type 0 where
   SelectCount : Datum → Selection
   SelectDelete : Datum → Selection
 
--- A table is opened, of a kind, with a place of the key, parts and sessions; a session, by its number, asks something,
--- or walks the table; the table is closed.
+-- A command: opens a table of a kind, with the key position, the numbers of parts and of sessions; has a session, by
+-- its number, request something or walk the table; or closes the table.
 pub data Command : Type 0 where
   Open : TableKind → ℤ → ℤ → ℤ → Command
   Session : ℤ → Ask → Command
@@ -45,11 +46,11 @@ kind_name OrderedSet = codes "ordered_set"
 kind_name Bag = codes "bag"
 kind_name DuplicateBag = codes "duplicate_bag"
 
--- an atom and arguments in a tuple
+-- a tuple of an atom and arguments
 abbrev pub called : List ℕ → List Datum → Datum
 called name arguments = tuple (items_of (atom name ∷ arguments))
 
--- the term of what a session asks
+-- the term of a session's request, with the number of the session
 abbrev pub ask_term : ℤ → Ask → Datum
 ask_term s (Insert t) = called (codes "insert") (integer s ∷ t ∷ [])
 ask_term s (InsertNew t) = called (codes "insert_new") (integer s ∷ t ∷ [])
@@ -64,7 +65,7 @@ ask_term s Leave = called (codes "leave") (integer s ∷ [])
 ask_term s First = called (codes "first") (integer s ∷ [])
 ask_term s (Next k) = called (codes "next") (integer s ∷ k ∷ [])
 
--- the term of what it asks by a specification, or of a walk
+-- the term of a session's request with a specification or for a walk, with the number of the session
 abbrev pub selection_term : ℤ → Selection → Datum
 selection_term s (Select d) = called (codes "select") (integer s ∷ d ∷ [])
 selection_term s (SelectLimit d limit) =
@@ -81,6 +82,6 @@ command_term (Session s ask) = ask_term s ask
 command_term (Walk s selection) = selection_term s selection
 command_term Close = called (codes "close") []
 
--- the term of no command
+-- a term that is not the term of any command
 abbrev pub IsNoCommand : Datum → Type 0
 IsNoCommand d = (command : Command) → d ≢ command_term command

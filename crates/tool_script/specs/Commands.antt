@@ -1,4 +1,4 @@
--- The commands that stand in memory.
+-- The commands as the code has them in memory, and what they mean.
 use Rattle.tool_script.specs.declared.command.Ask as ask_type
 use Rattle.tool_script.specs.declared.command.Ask.TheVariants as ask
 use Rattle.tool_script.specs.declared.command.Selection as selection_type
@@ -10,7 +10,7 @@ use Rattle.tool_script.specs.Command.Ask.{Insert, InsertNew, Lookup, Member, Del
 use Rattle.tool_script.specs.Command.Selection.{Select, SelectLimit, SelectMore, SelectCount, SelectDelete}
 use Rattle.tool_script.specs.Command.Command.{Open, Session, Walk, Close}
 
--- what a session asks
+-- the request that a value in memory means
 abbrev pub ask_of : {A : Type 0} → ask_type.Ask A → Ask
 ask_of (ask.Insert t) = Insert t.now
 ask_of (ask.InsertNew t) = InsertNew t.now
@@ -25,7 +25,7 @@ ask_of ask.Leave = Leave
 ask_of ask.First = First
 ask_of (ask.Next k) = Next k.now
 
--- what it asks by a specification, or of a walk
+-- the request with a specification, or for a walk, that a value in memory means
 abbrev pub selection_of : {A : Type 0} → selection_type.Selection A → Selection
 selection_of (selection.Select t) = Select t.now
 selection_of (selection.SelectLimit t limit) = SelectLimit t.now limit
@@ -33,7 +33,7 @@ selection_of (selection.SelectMore c) = SelectMore c
 selection_of (selection.SelectCount t) = SelectCount t.now
 selection_of (selection.SelectDelete t) = SelectDelete t.now
 
--- the command that is meant
+-- the command that a value in memory means
 abbrev pub command_of : {A : Type 0} → command_type.Command A → Command
 command_of (command.Open kind keypos parts sessions) = Open kind keypos parts sessions
 command_of (command.Session s a) = Session s (ask_of a)

@@ -15,46 +15,46 @@ use Rattle.tool_script.specs.Script.{ScriptState, beginning}
 use Rattle.tool_script.specs.Scripts.{HasState}
 use Rattle.tool_script.specs.Shell.{Replies, FirstReplies}
 
--- terms are replied, and their lines put behind the others
+-- the terms are replied to one after the other from the script's state, and the lines of the replies are appended
 abbrev pub ArePut : {S O A : Type 0} {s : Ghosts S A} {o : Ghosts O A} → script_type.Script S O A s o → script_type.Script S O A s o → List Datum → (lines more : List ℕ) → Type 0
 ArePut old new terms lines more =
     (st : ScriptState) → HasState old st
     → (replies : List Datum) × (after : ScriptState) × Replies st terms replies after × HasState new after
     × (more ≡ lines ++ flat_map line replies)
 
--- those of a beginning of the terms are
+-- the first of the terms are replied to, maybe none, and the lines of the replies are appended
 abbrev pub ArePutFirst : {S O A : Type 0} {s : Ghosts S A} {o : Ghosts O A} → script_type.Script S O A s o → List Datum → (lines more : List ℕ) → Type 0
 ArePutFirst old terms lines more =
     (st : ScriptState) → HasState old st
     → (front rest replies : List Datum) × (after : ScriptState) × (terms ≡ front ++ rest) × Replies st front replies after
     × (more ≡ lines ++ flat_map line replies)
 
--- an engine is in a state
+-- an engine is in this state
 abbrev pub IsIn : {S O A : Type 0} {s : Ghosts S A} {o : Ghosts O A} → engine_type.Engine S O A s o → ScriptState → Type 0
 IsIn e st = HasState e.script st
 
--- the lines of its last replies
+-- the lines of the replies to the last text
 abbrev pub lines_of : {S O A : Type 0} {s : Ghosts S A} {o : Ghosts O A} → engine_type.Engine S O A s o → List ℕ
 lines_of e = e.replies.items
 
--- A text spells terms, which are replied from the engine's state on: it keeps the lines of these replies, and is in the
--- state behind them.
+-- A text spells terms, which are replied to from the engine's state. The engine then has the lines of these replies,
+-- and is in the state after them.
 abbrev pub IsObeyed : {S O A : Type 0} {s : Ghosts S A} {o : Ghosts O A} → (old new : engine_type.Engine S O A s o) → (text : List ℕ) → Type 0
 IsObeyed old new text =
     (st : ScriptState) → IsIn old st
     → (terms replies : List Datum) × (after : ScriptState) × Spells text terms × Replies st terms replies after × IsIn new after
     × (lines_of new ≡ flat_map line replies)
 
--- why a text isn't read: what stands at the place of its fault, or want of memory
+-- why a text is not read: out of memory, or what is wrong at the byte that the fault names
 abbrev pub IsUnread : List ℕ → TextFault → Type 0
 IsUnread text f = (f ≡ faults.Memory) ⊎ IsNoText text f
 
--- Memory ran out behind that: the engine is at its beginning again, and keeps the lines of the replies to a beginning of
--- the terms that the text spells.
+-- Memory ran out while the commands were obeyed: the engine is at its beginning again, and has the lines of the replies
+-- to the first of the text's terms.
 abbrev pub IsLost : {S O A : Type 0} {s : Ghosts S A} {o : Ghosts O A} → (old new : engine_type.Engine S O A s o) → (text : List ℕ) → Type 0
 IsLost old new text = IsIn new beginning × ((st : ScriptState) → IsIn old st → FirstReplies st text (lines_of new))
 
--- a text that isn't read changes nothing; else memory ran out behind that
+-- a text that is not read changes nothing; else memory ran out while its commands were obeyed
 abbrev pub IsHalted : {S O A : Type 0} {s : Ghosts S A} {o : Ghosts O A} → (old new : engine_type.Engine S O A s o) → (text : List ℕ) → Halt → Type 0
 IsHalted old new text (halt.Unread f) = IsUnread text f × (new ≡ old)
 IsHalted old new text halt.Lost = IsLost old new text

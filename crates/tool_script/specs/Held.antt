@@ -3,8 +3,9 @@ use Rattle.std.specs.Prelude.{ℕ, ℤ, pos, ◌==◌, ◌&&◌, if◌then◌els
 use Rattle.term_core.specs.Datum.{Datum}
 use Rattle.walk_core.specs.Walk.{Position}
 
--- A walk that can go on: of which table, by its name, and of which session it is; what is answered on an object; the
--- named keys, if it has any; how many answers a piece has at most; where the walk is; and which answers are kept.
+-- A walk that can go on: the name of its table and the number of its session; the answer on each object; the named
+-- keys, if there are any; the maximal number of answers in a piece; the position of the walk; and the answers that are
+-- kept for the next piece.
 pub record Held : Type 0 where
   pub table : ℕ
   pub session : ℕ
@@ -14,13 +15,13 @@ pub record Held : Type 0 where
   pub at : Position
   pub kept : List Datum
 
--- a walk that is a table's and a session's
+-- a walk, if it belongs to this table and session
 abbrev pub held_by : ℕ → ℕ → Option Held → Option Held
 held_by table n (Some held) =
     if held.table == table && held.session == n then Some held else None
 held_by table n None = None
 
--- the walk of a continuation, where there is one that isn't spent, of this table and session
+-- the walk of a continuation's number, if it exists, is not spent, and belongs to this table and session
 abbrev pub held_at : List (Option Held) → ℕ → ℕ → ℤ → Option Held
 held_at walks table n (pos c) = held_by table n (get_or walks c None)
 held_at walks table n c = None

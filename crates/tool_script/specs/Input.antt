@@ -7,11 +7,12 @@ use Rattle.tool_io.specs.Terms.{OfInput, IsUnspelled}
 use Rattle.tool_io.specs.declared.fault.ToolFault.{ToolFault}
 use Rattle.tool_script.specs.Run.{StopsReplies}
 
--- this holds of the terms that a reader gave, of which there may be none
+-- `P` is true of the terms that a reader gave, maybe none
 abbrev pub OfScript : Option (List ℕ) → (List Datum → Type 0) → Type 0
 OfScript known P = OfInput known (λ input. (terms : List Datum) × Spells input terms × P terms)
 
--- a script ends early: the input spells no terms and nothing is written, or so by its terms
+-- how a script ends early: its input spells no terms and nothing is written, or a fault occurs while its terms are
+-- replied to
 abbrev pub StopsScript : (known old new : Option (List ℕ)) → ToolFault → Type 0
 StopsScript known old new f =
     (OfInput known (λ input. IsUnspelled input f) × Keeps old new)

@@ -1,4 +1,4 @@
--- The table that is open, in memory, and which sessions have left it.
+-- The open table as the code has it in memory, and which sessions have left it.
 use Rattle.std.specs.Prelude.{ℕ, ℤ, ◌≡◌, ◌<◌, ◌==◌, Bool, ◌&&◌, ◌||◌, Option, Some, slice_get, List}
 use Rattle.term_core.specs.Datum.{Datum}
 use Rattle.part_core.specs.declared.part.Part.{Ghosts}
@@ -13,24 +13,25 @@ use Rattle.tool_script.specs.Script.{OpenTable, answered_in, session_number}
 use Rattle.tool_script.specs.State.{IsAt}
 use Rattle.tool_script.specs.Walks.{selecting_by}
 
--- the table is in its state, and of each session it is known whether it has left
+-- the table in memory is in this state, and it is known of each session whether it has left
 pub record IsOpen {P A : Type 0} {p : Ghosts P A} (t : open_type.OpenTable P A p) (state : OpenTable) : Type 0 where
   pub table : IsAt t.table.options (AreAfter p.is_after t.table.parts.items) state.table
   pub left : (k : ℕ) → k < t.table.options.sessions → slice_get t.left.items k ≡ Some (state.left k)
 
--- a session has left, where it leaves
+-- session `n` is noted as having left if it leaves; the other notes are unchanged
 abbrev pub IsNoted : ℕ → Bool → List Bool → List Bool → Type 0
 IsNoted n leaves old new =
     (k : ℕ) (b : Bool) → slice_get old k ≡ Some b → slice_get new k ≡ Some (b || (k == n && leaves))
 
--- a session is replied, by its number, and the table is in the state behind that
+-- the reply to a session's request, by the number of the session; the table is in the state after it
 abbrev pub IsSessionAnswered : {P A : Type 0} {p : Ghosts P A} → open_type.OpenTable P A p → open_type.OpenTable P A p → ℤ → Ask → Datum → Type 0
 IsSessionAnswered old new number ask reply =
     (state : OpenTable) → IsOpen old state
     → (reply ≡ (answered_in state ask (session_number state number)).0)
     × IsOpen new (answered_in state ask (session_number state number)).1
 
--- the same of what it selects, and of the walks of the script
+-- the reply to a session's request with a specification, or for a walk, by the number of the session; the table and the
+-- script's walks are in the state after it
 abbrev pub IsSelectionAnswered : {P A : Type 0} {p : Ghosts P A} → open_type.OpenTable P A p → open_type.OpenTable P A p
     → (old new : List (Option (Continuation A))) → ℤ → Selection → Datum → Type 0
 IsSelectionAnswered before now old new number selection reply =

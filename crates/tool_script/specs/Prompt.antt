@@ -2,7 +2,7 @@
 use Rattle.tool_io.specs.declared.fault.ToolFault.{ToolFault}
 use Rattle.tool_io.specs.declared.fault.ToolFault.TheVariants as fault
 
--- for want of memory, or where a stream failed: no byte of an input ends it
+-- out of memory, or a stream that failed: no input byte ends the shell with another fault
 abbrev pub IsStreamFault : ToolFault → Type 0
 IsStreamFault fault.Memory = Unit {0}
 IsStreamFault fault.ReadFailed = Unit {0}

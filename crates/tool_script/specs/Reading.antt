@@ -12,12 +12,12 @@ use Rattle.tool_script.specs.Command.Ask.{Insert, InsertNew, Lookup, Member, Del
 use Rattle.tool_script.specs.Command.Selection.{Select, SelectLimit, SelectMore, SelectCount, SelectDelete}
 use Rattle.tool_script.specs.Command.Command.{Open, Session, Walk, Close}
 
--- no atom
+-- a term that is not an atom
 abbrev pub IsNoAtom : Datum → Type 0
 IsNoAtom (atom cs) = ⊥
 IsNoAtom d = Unit {0}
 
--- the kind of a name
+-- the table kind that this name means
 abbrev pub kind_in : List ℕ → Option TableKind
 kind_in cs =
     if pointwise nat_eq (codes "set") cs then Some Set
@@ -26,7 +26,7 @@ kind_in cs =
     else if pointwise nat_eq (codes "duplicate_bag") cs then Some DuplicateBag
     else None
 
--- what is asked by a name alone
+-- the request that has this name and no argument
 abbrev pub ask_alone : List ℕ → Option Ask
 ask_alone cs =
     if pointwise nat_eq (codes "fix") cs then Some Fix
@@ -35,7 +35,7 @@ ask_alone cs =
     else if pointwise nat_eq (codes "first") cs then Some First
     else None
 
--- what is asked by a name and a term
+-- the request that has this name and one term
 abbrev pub ask_with : List ℕ → Datum → Option Ask
 ask_with cs d =
     if pointwise nat_eq (codes "insert") cs then Some (Insert d)
@@ -48,7 +48,7 @@ ask_with cs d =
     else if pointwise nat_eq (codes "next") cs then Some (Next d)
     else None
 
--- a session that a term numbers asks something
+-- the command of a session that requests something, if the number of the session and the request were read
 abbrev pub asked_with : Option ℤ → Option Ask → Option Command
 asked_with (Some s) (Some ask) = Some (Session s ask)
 asked_with s ask = None
@@ -56,7 +56,7 @@ asked_with s ask = None
 abbrev pub asked_by : Datum → Option Ask → Option Command
 asked_by s ask = asked_with (integer_of s) ask
 
--- what is asked by a name and a term, which is a specification or numbers a continuation
+-- the request that has this name and one term, which is a specification or the number of a continuation
 abbrev pub selection_with : List ℕ → Datum → Option Selection
 selection_with cs d =
     if pointwise nat_eq (codes "select") cs then Some (Select d)
@@ -65,12 +65,12 @@ selection_with cs d =
     else if pointwise nat_eq (codes "select_delete") cs then Some (SelectDelete d)
     else None
 
--- by a name, a specification and a limit
+-- the request that has this name, a specification and a limit
 abbrev pub selection_within : List ℕ → Datum → Datum → Option Selection
 selection_within cs d limit =
     if pointwise nat_eq (codes "select") cs then option_map (SelectLimit d) (integer_of limit) else None
 
--- a session that a term numbers walks the table
+-- the command of a session that walks the table, if the number of the session and the request were read
 abbrev pub walked_with : Option ℤ → Option Selection → Option Command
 walked_with (Some s) (Some selection) = Some (Walk s selection)
 walked_with s selection = None
@@ -78,16 +78,16 @@ walked_with s selection = None
 abbrev pub walked_by : Datum → Option Selection → Option Command
 walked_by s selection = walked_with (integer_of s) selection
 
--- a session's command by a name and a term
+-- the command of a session that has this name and one term
 abbrev pub told_by : List ℕ → Datum → Datum → Option Command
 told_by cs s d = option_or (asked_by s (ask_with cs d)) (walked_by s (selection_with cs d))
 
--- the kind that a term names
+-- the table kind that a term names
 abbrev pub kind_by : Datum → Option TableKind
 kind_by (atom cs) = kind_in cs
 kind_by d = None
 
--- what opens a table, by what its arguments are
+-- the command that opens a table, if the kind and the numbers were read
 abbrev pub opened_with : Option TableKind → Option ℤ → Option ℤ → Option ℤ → Option Command
 opened_with (Some kind) (Some keypos) (Some parts) (Some sessions) =
     Some (Open kind keypos parts sessions)
@@ -99,11 +99,11 @@ opened_by cs kind keypos parts sessions =
     then opened_with (kind_by kind) (integer_of keypos) (integer_of parts) (integer_of sessions)
     else None
 
--- what closes it
+-- the command that has this name and no argument: `close`
 abbrev pub closed_by : List ℕ → Option Command
 closed_by cs = if pointwise nat_eq (codes "close") cs then Some Close else None
 
--- the command of a name and arguments
+-- the command that has this name and these arguments
 abbrev pub command_with : List ℕ → List Datum → Option Command
 command_with cs [] = closed_by cs
 command_with cs (s ∷ []) = asked_by s (ask_alone cs)

@@ -1,4 +1,4 @@
--- What a script of commands is replied, on one thread.
+-- The replies to a script of commands, on one thread.
 use Rattle.std.specs.Prelude.{◌≡◌, ◌⊎◌, Option, Some, None, List, [], ◌∷◌}
 use Rattle.term_core.specs.Datum.{Datum, cells}
 use Rattle.term_core.specs.Datum.Datum.{nil}
@@ -11,13 +11,13 @@ use Rattle.tool_script.specs.Script.{OpenTable, ScriptState, error, number_withi
 use Rattle.tool_script.specs.Script.{session_number, session_step}
 use Rattle.tool_script.specs.Walks.{Walked, selecting_by}
 
--- the script when its open table, and the walks that can go on, are these
+-- the script with this open table and these walks that can go on
 abbrev pub script_with : ScriptState → OpenTable → Walked → ScriptState
 script_with st o w =
     record { current = Some (record { table = w.table; left = o.left }); count = st.count; walks = w.walks }
 
--- How a command is replied, and the script behind it. While a table is open none is opened, and else nothing is asked
--- of one.
+-- The reply to a command, and the script after it. `open` while a table is open, and any other command while none is,
+-- are rejected.
 abbrev pub course : ScriptState → Option OpenTable → Command → Course ScriptState
 course st None (Open kind keypos parts sessions) =
     let place = number_within 1 65535 keypos in
@@ -31,13 +31,13 @@ course st (Some o) Close =
     Settled (cells (table_objects o.table) nil, record { current = None; count = st.count; walks = st.walks })
 course st current command = Settled (error 65, st)
 
--- A term is replied: what the command is replied that it is the term of, and a refusal where it is that of none.
+-- The reply to a term: if it is the term of a command, the reply to that command; else an error.
 abbrev pub IsReply : ScriptState → Datum → Datum → ScriptState → Type 0
 IsReply st d reply after =
     ((command : Command) × (d ≡ command_term command) × Comes (course st st.current command) reply after)
     ⊎ (IsNoCommand d × Gives (error 65, st) reply after)
 
--- terms are replied one after the other, from a state on
+-- the replies to terms one after the other, from a state
 abbrev pub AreReplies : ScriptState → List Datum → List Datum → Type 0
 AreReplies st [] [] = Unit {0}
 AreReplies st (d ∷ ds) (reply ∷ replies) =

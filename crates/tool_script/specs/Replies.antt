@@ -1,4 +1,4 @@
--- The replies that stand in memory, and how a list of objects is written.
+-- The replies as the code has them in memory, and how a list of objects is written.
 use Rattle.std.specs.Prelude.{ℕ, pos, flat_map, List, ◌∷◌}
 use Rattle.term_core.specs.Datum.{Datum, cells}
 use Rattle.term_core.specs.Datum.Datum.{integer, nil}
@@ -19,6 +19,6 @@ reply_term (reply.Count n) = integer (pos n)
 reply_term (reply.Error n) = error n
 reply_term (reply.Fault f) = fault_term f
 
--- the texts of terms, each behind a comma
+-- the texts of terms, each after a comma
 abbrev pub behind_commas : List Datum → List ℕ
 behind_commas ds = flat_map (λ d. 44 ∷ text_of d) ds

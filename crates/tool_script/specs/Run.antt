@@ -11,7 +11,7 @@ use Rattle.tool_script.specs.Script.{ScriptState, beginning}
 use Rattle.tool_script.specs.Replied.{IsReply, AreReplies}
 use Rattle.tool_script.specs.Scripts.{HasState}
 
--- the line of the reply to a term is put at the end
+-- the line of the reply to a term is appended
 abbrev pub IsPut : {S O A : Type 0} {s : Ghosts S A} {o : Ghosts O A} → script_type.Script S O A s o → script_type.Script S O A s o → Datum → List ℕ → List ℕ → Type 0
 IsPut old new term lines more =
     (st : ScriptState) → HasState old st
@@ -23,14 +23,15 @@ pub record WritesReplies (terms : List Datum) (old new : Option (List ℕ)) : Ty
   pub replied : AreReplies beginning terms replies
   pub gained : Appends old new (flat_map line replies)
 
--- the writer gains those of a beginning of the terms
+-- the writer gains the lines of the replies to the first of these terms, maybe none
 pub record WritesFirstReplies (terms : List Datum) (old new : Option (List ℕ)) : Type 0 where
   pub front : List Datum
   pub rest : List Datum
   pub whole : terms ≡ front ++ rest
   pub written : WritesReplies front old new
 
--- how a script ends early: for want of memory, or where the writer failed, and then nothing is said of what it got
+-- how a script ends early: out of memory, with the replies to the first terms written; or the writer failed, and its
+-- contents are unspecified
 abbrev pub StopsReplies : List Datum → (old new : Option (List ℕ)) → ToolFault → Type 0
 StopsReplies terms old new fault.Memory = WritesFirstReplies terms old new
 StopsReplies terms old new fault.WriteFailed = Unit {0}

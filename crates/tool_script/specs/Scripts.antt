@@ -1,4 +1,4 @@
--- A script in memory, and the state that it is in.
+-- A script as the code has it in memory, and the state that it is in.
 use Rattle.std.specs.Prelude.{◌≡◌, ◌<◌, Option, Some, None, IfSome}
 use Rattle.term_core.specs.Datum.{Datum}
 use Rattle.part_core.specs.declared.part.Part.{Ghosts}
@@ -13,20 +13,20 @@ use Rattle.tool_script.specs.Script.{OpenTable, ScriptState}
 use Rattle.tool_script.specs.Opened.{IsOpen}
 use Rattle.tool_script.specs.Replied.{course, IsReply}
 
--- the table that is open is in its state, if one is
+-- the open table in memory is in this state, or no table is open
 abbrev pub HasTable : {S O A : Type 0} {s : Ghosts S A} {o : Ghosts O A} → Current S O A s o → Option OpenTable → Type 0
 HasTable current.NoTable None = Unit {0}
 HasTable (current.Unordered t) (Some state) = IsOpen t state
 HasTable (current.Ordered t) (Some state) = IsOpen t state
 HasTable t state = ⊥
 
--- what it was opened with
+-- the options of the open table, if there is one
 abbrev pub open_options : {S O A : Type 0} {s : Ghosts S A} {o : Ghosts O A} → Current S O A s o → Option Options
 open_options current.NoTable = None
 open_options (current.Unordered t) = Some t.table.options
 open_options (current.Ordered t) = Some t.table.options
 
--- A script is in its state: how many tables were opened, one of which is the one that is open; its table; and its
+-- A script in memory is in this state: the number of tables opened, one of which is the open one; its table; and its
 -- walks.
 pub record HasState {S O A : Type 0} {s : Ghosts S A} {o : Ghosts O A} (script : script_type.Script S O A s o) (st : ScriptState) : Type 0
   where
@@ -35,12 +35,12 @@ pub record HasState {S O A : Type 0} {s : Ghosts S A} {o : Ghosts O A} (script :
     pub named : IfSome (open_options script.current) (λ options. options.name < script.count)
     pub walks : AreHeld (open_options script.current) script.count script.walks.items st.walks
 
--- a command is replied
+-- the reply to a command, after which the script is in its new state
 abbrev pub IsStep : {S O A : Type 0} {s : Ghosts S A} {o : Ghosts O A} → script_type.Script S O A s o → script_type.Script S O A s o → Command → Datum → Type 0
 IsStep old new command reply =
     (st : ScriptState) → HasState old st → Takes (course st st.current command) reply (HasState new)
 
--- a term is replied
+-- the reply to a term, after which the script is in its new state
 abbrev pub IsTermStep : {S O A : Type 0} {s : Ghosts S A} {o : Ghosts O A} → script_type.Script S O A s o → script_type.Script S O A s o → Datum → Datum → Type 0
 IsTermStep old new term reply =
     (st : ScriptState) → HasState old st

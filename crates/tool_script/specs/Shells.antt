@@ -1,4 +1,4 @@
--- A shell in memory: its script, what is begun, and the lines that aren't written yet.
+-- A shell as the code has it in memory: its script, the pending text, and the lines that are not written yet.
 use Rattle.std.specs.Prelude.{ℕ, ◌≡◌, ◌≢◌, ◌⊎◌, Bool, true, false, Option, IfSome, flat_map, List, [], ◌∷◌, ◌++◌, length}
 use Rattle.std.specs.Io.KnownBytes.{Appends, Consumes}
 use Rattle.term_core.specs.Datum.{Datum}
@@ -17,14 +17,16 @@ use Rattle.tool_script.specs.Script.{ScriptState, beginning}
 use Rattle.tool_script.specs.Scripts.{HasState}
 use Rattle.tool_script.specs.Shell.{Replies, Looked, Goes, IsLookedAtNext, FirstReplies, AreFirstReplies, IsAnsweredFirst, refusal}
 
--- terms are replied, and their lines put behind the others, of which some may have gone to the writer
+-- terms are replied to, and the lines of the replies are appended to the gathered ones, of which some may have gone to
+-- the writer
 abbrev pub AreAnswered : {S O A : Type 0} {s : Ghosts S A} {o : Ghosts O A} → script_type.Script S O A s o → script_type.Script S O A s o → List Datum → (before after : Option (List ℕ)) → (lines more : List ℕ) → Type 0
 AreAnswered old new terms before after lines more =
     (st : ScriptState) → HasState old st
     → (replies : List Datum) × (behind : ScriptState) × Replies st terms replies behind × HasState new behind
     × Passes before after (lines ++ flat_map line replies) more
 
--- those of a beginning of the terms are, where memory ran out
+-- memory ran out while terms were replied to: the lines of the first replies, maybe none, are appended to the gathered
+-- ones
 abbrev pub StopsTerms : {S O A : Type 0} {s : Ghosts S A} {o : Ghosts O A} → script_type.Script S O A s o → List Datum → (before after : Option (List ℕ)) → (lines more : List ℕ) → ToolFault → Type 0
 StopsTerms old terms before after lines more fault.Memory =
     (st : ScriptState) → HasState old st
@@ -33,14 +35,14 @@ StopsTerms old terms before after lines more fault.Memory =
 StopsTerms old terms before after lines more fault.WriteFailed = Unit {0}
 StopsTerms old terms before after lines more f = ⊥
 
--- a text that was refused is begun still, or its refusal is put behind the lines
+-- a rejected text is still pending, or its error reply is appended to the lines
 abbrev pub IsRefused : TextFault → ℕ → (is_given_up is_kept : Bool) → (lines more : List ℕ) → Type 0
 IsRefused f size is_given_up true lines more =
     (f ≡ faults.Syntax size) × (is_given_up ≡ false) × (more ≡ lines)
 IsRefused f size is_given_up false lines more =
     (f ≢ faults.Memory) × (is_given_up ≡ false → f ≢ faults.Syntax size) × (more ≡ lines ++ line (refusal f))
 
--- a text is looked at: it is begun still and nothing has changed, or nothing is begun any more
+-- a text is examined: it is still pending and nothing has changed, or nothing is pending any more
 abbrev pub IsLookedAt : {S O A : Type 0} {s : Ghosts S A} {o : Ghosts O A} → script_type.Script S O A s o → script_type.Script S O A s o → (is_given_up : Bool) → (text : List ℕ) → (is_kept : Bool) → (before after : Option (List ℕ)) → (lines more : List ℕ) → Type 0
 IsLookedAt old new is_given_up text true before after lines more =
     (is_given_up ≡ false) × IsNoText text (faults.Syntax (length text)) × ((st : ScriptState) → HasState old st → HasState new st)
@@ -50,7 +52,7 @@ IsLookedAt old new is_given_up text false before after lines more =
     → (now : List ℕ) × (behind : ScriptState) × Looked is_given_up st text now behind [] × HasState new behind
     × Passes before after (lines ++ now) more
 
--- where memory ran out, the replies to its first terms may be put behind the lines
+-- memory ran out while a text was examined: the replies to its first terms may have been appended to the lines
 abbrev pub StopsText : {S O A : Type 0} {s : Ghosts S A} {o : Ghosts O A} → script_type.Script S O A s o → (text : List ℕ) → (before after : Option (List ℕ)) → (lines more : List ℕ) → ToolFault → Type 0
 StopsText old text before after lines more fault.Memory =
     (st : ScriptState) → HasState old st
@@ -58,11 +60,12 @@ StopsText old text before after lines more fault.Memory =
 StopsText old text before after lines more fault.WriteFailed = Unit {0}
 StopsText old text before after lines more f = ⊥
 
--- whatever stands behind a line, the text that is looked at next is this one
+-- whatever follows this line, the text that is examined next is this one
 abbrev pub IsLookedAtBy : (begun line text : List ℕ) → Type 0
 IsLookedAtBy begun line text = (rest : List ℕ) → IsLineBefore line rest → IsLookedAtNext begun (line ++ rest) text
 
--- as for a text, of the one that is looked at where a line stands behind what is begun
+-- memory ran out at a line that follows the pending text: the replies to the first terms of the text examined there may
+-- have been appended to the lines
 abbrev pub StopsLine : {S O A : Type 0} {s : Ghosts S A} {o : Ghosts O A} → script_type.Script S O A s o → (begun line : List ℕ) → (before after : Option (List ℕ)) → (lines more : List ℕ) → ToolFault → Type 0
 StopsLine old begun line before after lines more fault.Memory =
     (st : ScriptState) → HasState old st
@@ -71,18 +74,20 @@ StopsLine old begun line before after lines more fault.Memory =
 StopsLine old begun line before after lines more fault.WriteFailed = Unit {0}
 StopsLine old begun line before after lines more f = ⊥
 
--- whatever stands behind a line, and is answered from there, the line before it is answered so
+-- whatever follows a line: if the rest of the input is processed from the state after the line, the line and the rest
+-- are processed from the state before it
 abbrev pub LeadsOn : ScriptState → (begun line now : List ℕ) → ScriptState → (left : List ℕ) → Type 0
 LeadsOn st begun line now behind left =
     (rest out : List ℕ) (after : ScriptState) → IsLineBefore line rest → Goes behind left rest out after
     → Goes st begun (line ++ rest) (now ++ out) after
 
--- and the text that is looked at next, where the line is begun with what was begun, is the one from there on
+-- if the line joins the pending text, the text that is examined next is the same with the line pending or still to be
+-- read
 abbrev pub LooksOn : (begun line : List ℕ) → Type 0
 LooksOn begun line =
     (rest text : List ℕ) → IsLineBefore line rest → IsLookedAtNext (begun ++ line) rest text → IsLookedAtNext begun (line ++ rest) text
 
--- a line is answered: it is begun, or nothing is any more
+-- a line is processed: it is pending, or nothing is pending any more
 abbrev pub IsLineAnswered : {S O A : Type 0} {s : Ghosts S A} {o : Ghosts O A} → script_type.Script S O A s o → script_type.Script S O A s o → (begun line : List ℕ) → (is_kept : Bool) → (before after : Option (List ℕ)) → (lines more : List ℕ) → Type 0
 IsLineAnswered old new begun line true before after lines more =
     ((st : ScriptState) → HasState old st → HasState new st × LeadsOn st begun line [] st (begun ++ line))
@@ -92,23 +97,23 @@ IsLineAnswered old new begun line false before after lines more =
     → (now : List ℕ) × (behind : ScriptState) × HasState new behind × LeadsOn st begun line now behind []
     × Passes before after (lines ++ now) more
 
--- what may follow: anything, or nothing
+-- what may follow a line: anything, or nothing after the end of the input
 abbrev pub MayFollow : Progress → List ℕ → Type 0
 MayFollow progress.More rest = Unit {0}
 MayFollow progress.End rest = rest ≡ []
 
--- and behind what was answered, with this begun there
+-- what may follow the input processed so far: anything while a text is pending, else what may follow a line
 abbrev pub MayStandBehind : Progress → (begun rest : List ℕ) → Type 0
 MayStandBehind p [] rest = MayFollow p rest
 MayStandBehind p (b ∷ begun) rest = Unit {0}
 
--- it was all that the reader had
+-- at the end of the input, `taken` is all that the reader had
 abbrev pub IsAllAt : Progress → Option (List ℕ) → List ℕ → Type 0
 IsAllAt progress.More known taken = Unit {0}
 IsAllAt progress.End known taken = IfSome known (λ bytes. bytes ≡ taken)
 
--- A shell between two lines: the input so far is what was answered and what is begun; from here on all is answered as
--- from the beginning; and the lines are written or kept.
+-- A shell between two lines: the input so far is what was processed and what is pending; processing goes on from here
+-- as from the beginning; and the output lines are written or gathered.
 pub record Stands {S O A : Type 0} {s : Ghosts S A} {o : Ghosts O A} (script : script_type.Script S O A s o) (p : Progress) (known left old now : Option (List ℕ)) (begun lines : List ℕ) : Type 0
   where
     pub front : List ℕ
@@ -124,7 +129,8 @@ pub record Stands {S O A : Type 0} {s : Ghosts S A} {o : Ghosts O A} (script : s
     pub all : IsAllAt p known (front ++ begun)
     pub put : Passes old now out lines
 
--- what is written and kept answers a beginning of the input, and maybe the first terms that are looked at behind it
+-- the lines written and gathered are the output for the beginning of the input, and maybe the replies to the first
+-- terms of the text that is examined next
 pub record HoldsFirst (known old now : Option (List ℕ)) (lines : List ℕ) : Type 0 where
   pub front : List ℕ
   pub rest : List ℕ
@@ -142,6 +148,6 @@ StopsHolding known old now lines fault.ReadFailed = HoldsFirst known old now lin
 StopsHolding known old now lines fault.WriteFailed = Unit {0}
 StopsHolding known old now lines f = ⊥
 
--- the lines are written where writing goes well
+-- the gathered lines are written and the fault stays, or writing fails and the fault is `WriteFailed`
 abbrev pub IsToldBy : ToolFault → (old new : Option (List ℕ)) → (lines : List ℕ) → ToolFault → Type 0
 IsToldBy f old new lines result = (result ≡ fault.WriteFailed) ⊎ ((result ≡ f) × Appends old new lines)

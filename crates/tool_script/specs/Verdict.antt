@@ -11,13 +11,14 @@ use Rattle.mspec_syntax.specs.declared.fault.SpecFault.TheVariants.{Memory}
 use Rattle.mspec_meaning.specs.Meaning.{Means}
 use Rattle.walk_query.specs.Plan.{IsPlanOf}
 
--- one that answers so on each object, and by which a walk visits these keys, if it names them; or none, for this fault
+-- a specification, by its answer on each object and the keys that a walk by it visits, if it names them; or no
+-- specification, for this fault
 pub data Verdict : Type 0 where
   Meant : (Datum → Option Datum) → Option (List Datum) → Verdict
   Faulty : SpecFault → Verdict
 
 -- A specification that the term is read as, within its limits; what it means on each object; and the keys that a walk
--- by it visits, of a table with these options.
+-- by it visits in a table with these options.
 pub record IsMeant (o : Options) (d : Datum) (answer : Datum → Option Datum) (plan : Option (List Datum)) : Type 0 where
   pub specification : Specification
   pub read : IsSpecification d specification
@@ -25,7 +26,7 @@ pub record IsMeant (o : Options) (d : Datum) (answer : Datum → Option Datum) (
   pub means : (object : Datum) → Means specification object (answer object)
   pub planned : IsPlanOf o.keypos (is_ordered o.kind) specification plan
 
--- so the term is judged, of a table with these options; want of memory is no fault of it
+-- the verdict on a term, as a specification for a table with these options; out of memory is not a fault of the term
 abbrev pub IsVerdict : Options → Datum → Verdict → Type 0
 IsVerdict o d (Meant answer plan) = IsMeant o d answer plan
 IsVerdict o d (Faulty f) = (f ≢ Memory) × IsRefusal f d

@@ -1,4 +1,4 @@
--- What a session is replied that walks a table by a specification, on one thread.
+-- The reply to a session that walks a table by a specification, on one thread.
 use Rattle.std.specs.Prelude.{ℕ, ℤ, pos, ◌++◌, if◌then◌else◌, nat_le, Option, Some, None, set, map}
 use Rattle.std.specs.Prelude.{List, [], ◌∷◌, length, codes}
 use Rattle.std.specs.Option.{option_to_list}
@@ -19,16 +19,16 @@ use Rattle.tool_script.specs.Script.{error, key_or_end}
 use Rattle.tool_script.specs.Verdict.{Verdict}
 use Rattle.tool_script.specs.Verdict.Verdict.{Meant, Faulty}
 
--- a number behind a refusal's, if there is one
+-- the argument that follows an error code, if there is one
 abbrev pub arguments : Option ℕ → List Datum
 arguments argument = map (λ n. integer (pos n)) (option_to_list argument)
 
--- a fault of a specification, by its number and what stands behind it
+-- the error reply to a fault of a specification: its error code, and the clause and the variable if it has them
 abbrev pub fault_term : SpecFault → Datum
 fault_term f =
     called (codes "error") (integer (pos (number_of f)) ∷ (arguments (clause_of f) ++ arguments (variable_of f)))
 
--- a piece, and the number of its continuation
+-- a piece with the number of its continuation
 abbrev pub piece_term : List Datum → ℕ → Datum
 piece_term given c = tuple (items_of (cells given nil ∷ integer (pos c) ∷ []))
 
@@ -37,13 +37,13 @@ pub record Walked : Type 0 where
   pub table : TableState
   pub walks : List (Option Held)
 
--- the walk behind a piece
+-- the walk after a piece
 abbrev pub behind_piece : Held → Piece → Held
 behind_piece held piece =
     record { table = held.table; session = held.session; answer = held.answer; plan = held.plan; limit = held.limit; at = piece.at; kept = piece.kept }
 
--- A walk goes on by a piece, which is replied with a new continuation. Where there is no answer left the walk is at its
--- end.
+-- A walk goes on by a piece. The reply is the piece with the number of a new continuation. If no answer is left, the
+-- walk is at its end.
 abbrev pub piece_step : Walked → Held → Step Walked
 piece_step w held =
     let piece = piece_of held.answer held.limit held.kept held.at (sights_from w.table held.plan held.at) in
@@ -53,7 +53,7 @@ piece_step w held =
       record { table = w.table; walks = w.walks ++ Some (behind_piece held piece) ∷ [] },
     )
 
--- a walk that begins
+-- a walk at its beginning
 abbrev pub begun : Options → ℕ → ℕ → (Datum → Option Datum) → Option (List Datum) → Held
 begun o n limit answer plan =
     record {
@@ -66,44 +66,44 @@ begun o n limit answer plan =
       kept = [];
     }
 
--- A continuation's walk goes on, and the continuation is spent; there may be none such.
+-- The walk of a continuation goes on, and the continuation is spent; error 62 if there is no such walk.
 abbrev pub more_step : Walked → ℤ → Option Held → Step Walked
 more_step w (pos c) (Some held) =
     piece_step (record { table = w.table; walks = set w.walks c None }) held
 more_step w c held = (error 62, w)
 
--- all answers
+-- the reply to `select`: all answers
 abbrev pub selection_step : Walked → (Datum → Option Datum) → Option (List Datum) → Step Walked
 selection_step w answer plan = (cells (selected w.table plan answer) nil, w)
 
--- how many objects are answered true
+-- the reply to `select_count`: the number of objects for which the answer is true
 abbrev pub count_step : Walked → (Datum → Option Datum) → Option (List Datum) → Step Walked
 count_step w answer plan = (integer (pos (number_true w.table plan answer)), w)
 
--- these are gone
+-- the reply to `select_delete`: the number of objects for which the answer is true, which are deleted
 abbrev pub removal_step : Walked → (Datum → Option Datum) → Option (List Datum) → Step Walked
 removal_step w answer plan = (
   integer (pos (number_true w.table plan answer)),
   record { table = after_removal w.table plan answer; walks = w.walks },
 )
 
--- what is done by what a specification means and the keys that it names, or its fault
+-- what is done, given what a specification means and the keys that it names; or the reply to its fault
 abbrev pub judged : Walked → ((Datum → Option Datum) → Option (List Datum) → Step Walked) → Verdict → Step Walked
 judged w go (Meant answer plan) = go answer plan
 judged w go (Faulty f) = (fault_term f, w)
 
--- a number from 1 on
+-- a number, if it is at least 1
 abbrev pub limit_in : ℤ → Option ℕ
 limit_in (pos n) = if nat_le 1 n then Some n else None
 limit_in z = None
 
--- a walk in pieces begins, if it has a limit
+-- a walk in pieces begins, or the reply is error 63 if the limit is not at least 1
 abbrev pub limited : Walked → ℕ → Datum → Option ℕ → Course Walked
 limited w n d None = Settled (error 63, w)
 limited w n d (Some limit) =
     Judging w.table.options d (judged w (λ answer plan. piece_step w (begun w.table.options n limit answer plan)))
 
--- what a session selects
+-- the reply to a session's request with a specification, or for a walk, and the state after it
 abbrev pub selecting : Walked → ℕ → Selection → Course Walked
 selecting w n (Select d) = Judging w.table.options d (judged w (selection_step w))
 selecting w n (SelectLimit d limit) = limited w n d (limit_in limit)
@@ -112,7 +112,7 @@ selecting w n (SelectMore c) =
 selecting w n (SelectCount d) = Judging w.table.options d (judged w (count_step w))
 selecting w n (SelectDelete d) = Judging w.table.options d (judged w (removal_step w))
 
--- one that is there and hasn't left
+-- the reply to such a request and the state after it, if the session exists and has not left; else error 61
 abbrev pub selecting_by : Walked → Selection → Option ℕ → Course Walked
 selecting_by w selection (Some n) = selecting w n selection
 selecting_by w selection None = Settled (error 61, w)

@@ -1,7 +1,7 @@
 //! A law of commands, the contract of a function that does nothing.
 ghost use Rattle.tool_script.specs.CommandLaws.{TermsTellCommands};
 
-/// Two commands have two terms.
+/// States that different commands have different terms.
 pub fn terms_tell_commands()
     ensures { TermsTellCommands }
 {}

@@ -11,16 +11,17 @@ use std::alloc::{AllocError, Allocator, Global};
 use term_core::Term;
 use term_text::{TextFault, read_terms};
 
-/// Why the commands of a text aren't all replied.
+/// Why not all commands of a text were replied to.
 #[derive(Clone, Copy, Debug, PartialEq, Eq)]
 pub enum Halt {
-    /// The text is refused, or there was no memory to read it, so that none is obeyed.
+    /// The text is rejected, or memory ran out while it was read. None of its commands is obeyed.
     Unread(TextFault),
-    /// There was no memory for a command or for its reply, and the engine is at its beginning again.
+    /// Memory ran out at a command or at its reply, and the engine is at its beginning again.
     Lost,
 }
 
-/// Puts the lines of the replies to these terms at the end. There is no memory for more tables than can be counted.
+/// Replies to these terms, and appends the lines of the replies. Fails if an allocation fails, or if 2^64 - 1 tables
+/// have been opened; the lines are then those of the replies to the first terms.
 fn put_all<S: Part<A> + Drop, O: Part<A> + Drop, A: Allocator + Copy>(
     script: &mut Script<S, O, A>,
     terms: &[Term<A>],
@@ -45,10 +46,18 @@ fn put_all<S: Part<A> + Drop, O: Part<A> + Drop, A: Allocator + Copy>(
 }
 
 /// A script between two texts, and the lines of its last replies.
-#[derive(Drop)]
 pub struct Engine<S: Part<A> + Drop, O: Part<A> + Drop, A: Allocator = Global> {
     script: Script<S, O, A>,
     replies: Vec<u8, A>,
+}
+
+/// By hand: a function that drops one has one call in its proof, and not a case for each way in which its parts are dropped.
+impl<S: Part<A> + Drop, O: Part<A> + Drop, A: Allocator> Drop for Engine<S, O, A> {
+    fn drop(self) {
+        let Engine { script, replies } = self;
+        drop(script);
+        drop(replies);
+    }
 }
 
 impl<S: Part<A> + Drop, O: Part<A> + Drop, A: Allocator + Copy> Engine<S, O, A> {
@@ -58,7 +67,7 @@ impl<S: Part<A> + Drop, O: Part<A> + Drop, A: Allocator + Copy> Engine<S, O, A> 
     ghost use Rattle.tool_script.specs.Engine.{IsIn, IsObeyed, IsHalted, lines_of};
     ghost use Rattle.tool_script.specs.Script.{beginning};
 
-    /// An engine at its beginning: no table is open, and nothing was replied.
+    /// Returns an engine at its beginning: no table is open, and there are no replies.
     pub fn new(alloc: A) -> Self
         ensures state { IsIn result beginning }
         ensures lines { lines_of result ≡ [] }
@@ -69,9 +78,10 @@ impl<S: Part<A> + Drop, O: Part<A> + Drop, A: Allocator + Copy> Engine<S, O, A> 
         }
     }
 
-    /// Obeys the commands that a text spells, each with a dot behind it, and keeps the lines of their replies in the
-    /// place of the last ones. A text that is refused changes nothing. Where there is no memory for a command, or for
-    /// its reply, the lines are those of the replies before it, and the engine is at its beginning again.
+    /// Obeys the commands that a text spells, each followed by a dot. The lines of their replies replace those of the
+    /// last text. Fails with `Unread` if the text is rejected, and changes nothing then. Fails with `Lost` if memory
+    /// runs out at a command or its reply: the lines are then those of the replies before it, and the engine is at its
+    /// beginning again.
     pub fn obey(&mut self, alloc: A, text: &[u8]) -> Result<(), Halt>
         requires unordered { ServesUnordered S.serves }
         requires ordered { IsTrue (O.serves OrderedSet) }
@@ -92,7 +102,7 @@ impl<S: Part<A> + Drop, O: Part<A> + Drop, A: Allocator + Copy> Engine<S, O, A> 
         }
     }
 
-    /// The lines of the last replies.
+    /// Returns the lines of the replies to the last text.
     pub fn replies(&self) -> &[u8]
         ensures { result.now ≡ lines_of self.now }
     {

@@ -1,4 +1,5 @@
-//! Lines of an input, and what a line does to what is begun.
+//! Lines of an input, and what a line does to the pending text (the lines since the last that was examined or given
+//! up).
 ghost use Rattle.std.specs.Prelude.{◌≡◌, IfOk, IfErr};
 ghost use Rattle.term_text.specs.Character.{is_white_space};
 ghost use Rattle.term_text.specs.TokenReading.{begins_gap};
@@ -9,27 +10,28 @@ use std::alloc::Allocator;
 use std::io::{self, BufRead, ErrorKind};
 use tool_io::ToolFault;
 
-/// Whether an input may go on behind a line.
+/// Whether an input may go on after a line.
 #[derive(Clone, Copy, Debug, PartialEq, Eq)]
 pub(crate) enum Progress {
     More,
     End,
 }
 
-/// What a line does to what is begun.
+/// What a line does to the pending text.
 #[derive(Clone, Copy, Debug, PartialEq, Eq)]
 pub(crate) enum Effect {
-    /// Nothing, where nothing is begun: white space or a comment alone.
+    /// Nothing is pending, and the line is skipped: white space or a comment alone.
     Passes,
-    /// It goes behind what is begun.
+    /// The line is appended to the pending text.
     GoesOn,
-    /// It goes behind what is begun, which is looked at.
+    /// The line is appended to the pending text, which is then examined.
     LooksAt,
-    /// What is begun is given up.
+    /// The pending text is given up: it is examined without the line, for the last time.
     GivesUp,
 }
 
-/// Takes the next line, with its line feed, and puts it at the end of these bytes. Where it has none, it is the last.
+/// Reads the next line, with its line feed, and appends it to these bytes. Returns `End` if the line has no line feed,
+/// since it is then the last, and `More` otherwise. Fails with `Memory` or `ReadFailed`.
 pub(crate) fn take_line<B: BufRead, A: Allocator>(
     input: &mut B,
     bytes: &mut Vec<u8, A>,
@@ -40,13 +42,13 @@ pub(crate) fn take_line<B: BufRead, A: Allocator>(
 {
     let start = bytes.len();
     match input.read_until(b'\n', bytes) {
-        Ok(_count) => Ok(progress_behind(&bytes[start..])),
+        Ok(_count) => Ok(later_progress(&bytes[start..])),
         Err(error) => Err(read_fault(&error)),
     }
 }
 
-/// Whether an input may go on behind a line: one that ends with its line feed.
-fn progress_behind(line: &[u8]) -> Progress
+/// Returns `More` if the line ends with a line feed, so that the input may go on, else `End`.
+fn later_progress(line: &[u8]) -> Progress
     ensures { EndsLine line.now result }
 {
     if line.is_empty() {
@@ -59,7 +61,7 @@ fn progress_behind(line: &[u8]) -> Progress
     }
 }
 
-/// Why no line was read: for want of memory, or since the reader failed.
+/// Returns why no line was read: `Memory` if memory ran out, else `ReadFailed`.
 fn read_fault(error: &io::Error) -> ToolFault
     ensures { IsReadFault result }
 {
@@ -69,8 +71,8 @@ fn read_fault(error: &io::Error) -> ToolFault
     ToolFault::ReadFailed
 }
 
-/// What a line does behind what is begun.
-pub(crate) fn effect_behind(begun: &[u8], line: &[u8]) -> Effect
+/// Returns what a line does after this pending text.
+pub(crate) fn effect_after(begun: &[u8], line: &[u8]) -> Effect
     ensures { result ≡ effect_of begun.now line.now }
 {
     if begun.is_empty() {
@@ -87,14 +89,14 @@ pub(crate) fn effect_behind(begun: &[u8], line: &[u8]) -> Effect
     }
 }
 
-/// Tabs, line feeds, form feeds, carriage returns and spaces.
+/// Returns whether a byte is white space: bytes 9 to 13 (tab to carriage return) and the space.
 fn is_white_space(byte: u8) -> bool
     ensures { result ≡ is_white_space byte }
 {
     matches!(byte, b'\t'..=b'\r' | b' ')
 }
 
-/// White space alone.
+/// Returns whether a line is white space alone, or nothing.
 fn is_empty(line: &[u8]) -> bool
     ensures { result ≡ is_empty line.now }
 {
@@ -110,7 +112,7 @@ fn is_empty(line: &[u8]) -> bool
     }
 }
 
-/// White space or a comment alone.
+/// Returns whether a line is white space or a comment alone, or nothing.
 fn is_idle(line: &[u8]) -> bool
     ensures { result ≡ is_idle line.now }
 {
@@ -129,7 +131,7 @@ fn is_idle(line: &[u8]) -> bool
     }
 }
 
-/// Whether these bytes begin with white space or a comment, or are none.
+/// Returns whether these bytes begin with white space or a comment, or there are none.
 fn begins_gap(bytes: &[u8]) -> bool
     ensures { result ≡ begins_gap bytes.now }
 {
@@ -139,7 +141,7 @@ fn begins_gap(bytes: &[u8]) -> bool
     }
 }
 
-/// Whether a dot stands before white space, a percent sign or the end.
+/// Returns whether the line has a dot followed by white space, a percent sign or the end.
 fn has_dot(line: &[u8]) -> bool
     ensures { result ≡ has_dot line.now }
 {

@@ -1,4 +1,4 @@
-//! The table that is open in a script, and which sessions have left it.
+//! The open table of a script, and which sessions have left it.
 ghost use Rattle.std.specs.Prelude.{◌≡◌, IfOk};
 ghost use Rattle.tables.specs.Local.{AreAfter};
 ghost use Rattle.tables.specs.OneThread.{opened};
@@ -18,7 +18,7 @@ use tables::{LocalTable, Options};
 use term_core::Term;
 use tool_io::STRANGER_SESSION;
 
-/// A number from 1 on, up to another.
+/// Returns the number as a key position if it is between 1 and 65,535, else `None`.
 fn keypos_in(value: i64) -> Option<u16>
     ensures { result ≡ number_within 1 65535 value }
 {
@@ -28,7 +28,7 @@ fn keypos_in(value: i64) -> Option<u16>
     Some(value as u16)
 }
 
-/// A number from 1 on, up to another.
+/// Returns the number if it is between 1 and `most`, else `None`.
 fn small_in(value: i64, most: u8) -> Option<u8>
     ensures { result ≡ number_within 1 most value }
 {
@@ -38,8 +38,8 @@ fn small_in(value: i64, most: u8) -> Option<u8>
     Some(value as u8)
 }
 
-/// The options of a table that can be opened, none where the numbers are outside their ranges or an ordered set has
-/// more than one part.
+/// Returns the options of a table: a key position from 1 to 65,535, 1 to 64 parts and 1 to 16 sessions. Returns `None`
+/// if a number is outside its range, or an ordered set has more than one part.
 pub(crate) fn options_in(
     name: u64,
     kind: TableKind,
@@ -65,7 +65,7 @@ pub(crate) fn options_in(
     })
 }
 
-/// Whether a session leaves.
+/// Returns whether the session leaves the table with this request.
 fn is_leaving<A: Allocator>(ask: &Ask<'_, A>) -> bool
     ensures { result ≡ is_leaving (ask_of ask.now) }
 {
@@ -80,7 +80,7 @@ fn is_leaving<A: Allocator>(ask: &Ask<'_, A>) -> bool
     }
 }
 
-/// Notes that a session has left, where it leaves.
+/// Notes that a session has left, if it leaves; otherwise changes nothing.
 fn note_leaving<A: Allocator>(left: &mut Vec<bool, A>, number: u8, leaves: bool)
     ensures { IsNoted number leaves left.old.items left.new.items }
 {
@@ -93,7 +93,7 @@ fn note_leaving<A: Allocator>(left: &mut Vec<bool, A>, number: u8, leaves: bool)
     }
 }
 
-/// A table that is opened, with options that its parts serve.
+/// Opens a table with options that its parts support. Fails if an allocation fails.
 fn open_at<A: Allocator + Copy, P: Part<A> + Drop>(
     alloc: A,
     options: Options,
@@ -106,7 +106,7 @@ fn open_at<A: Allocator + Copy, P: Part<A> + Drop>(
     LocalTable::open(alloc, options).map_err(|fault| fault.alloc_error())
 }
 
-/// A table that is open, and of each session whether it has left.
+/// An open table, and for each session whether it has left.
 #[derive(Drop)]
 pub(crate) struct OpenTable<P: Part<A> + Drop, A: Allocator = Global> {
     table: LocalTable<P, A>,
@@ -122,7 +122,7 @@ impl<P: Part<A> + Drop, A: Allocator + Copy> OpenTable<P, A> {
     ghost use Rattle.tool_script.specs.Script.{OpenTable as OpenState, session_number, newly_opened};
     ghost use Rattle.tool_script.specs.Opened.{IsOpen, IsSelectionAnswered, IsSessionAnswered};
 
-    /// A table that is opened, which no session has left.
+    /// Opens a table that no session has left. Fails if an allocation fails.
     pub(crate) fn new(alloc: A, options: Options) -> Result<Self, AllocError>
         requires { IsOpenable P.serves options }
         ensures options { IfOk result (λ table. table.table.options ≡ options) }
@@ -133,7 +133,7 @@ impl<P: Part<A> + Drop, A: Allocator + Copy> OpenTable<P, A> {
         Ok(OpenTable { table, left })
     }
 
-    /// The session of a number, where it is there and hasn't left.
+    /// Returns the session with this number, or `None` if it does not exist or has left.
     fn session(&self, number: i64) -> Option<u8>
         ensures inside { IfSome result (λ n. n < self.now.table.options.sessions) }
         ensures found { (o : OpenState) → IsOpen self.now o → result ≡ session_number o number }
@@ -149,7 +149,8 @@ impl<P: Part<A> + Drop, A: Allocator + Copy> OpenTable<P, A> {
         }
     }
 
-    /// Admits a session by its number, where it is there and hasn't left, and notes whether it leaves.
+    /// Has a session do what it requests, and notes whether it leaves. Replies with error 61 if the session does not
+    /// exist or has left. Fails if an allocation fails.
     pub(crate) fn admit(
         &mut self,
         number: i64,
@@ -169,7 +170,8 @@ impl<P: Part<A> + Drop, A: Allocator + Copy> OpenTable<P, A> {
         Ok(reply)
     }
 
-    /// Admits a session by its number to walk the table, where it is there and hasn't left.
+    /// Has a session walk the table. Replies with error 61 if the session does not exist or has left. Fails if an
+    /// allocation fails.
     pub(crate) fn admit_walk(
         &mut self,
         alloc: A,
@@ -188,7 +190,7 @@ impl<P: Part<A> + Drop, A: Allocator + Copy> OpenTable<P, A> {
         walk(alloc, &mut session, walks, selection)
     }
 
-    /// The objects, in the order of a walk; the table is given up.
+    /// Closes the table and returns its objects in walk order. Fails if an allocation fails.
     pub(crate) fn close(self, alloc: A) -> Result<Vec<Term<A>, A>, AllocError>
         ensures { IfOk result (λ objects. (o : OpenState) → IsOpen self o
             → objects.items ≡ table_objects o.table) }

@@ -1,10 +1,10 @@
-//! A shell for a person: it says that it waits for a line, writes texts as such, and says what a refusal means.
+//! A shell for a person: it prompts for each line, writes texts as such, and explains errors.
 ghost use Rattle.std.specs.Prelude.{◌≤◌, length, IfErr, IsTrue};
 ghost use Rattle.part_core.specs.declared.kind.TableKind.TheVariants.{OrderedSet};
 ghost use Rattle.part_core.specs.Served.{ServesUnordered};
 ghost use Rattle.tool_script.specs.Prompt.{IsStreamFault};
 
-use crate::line::{Effect, Progress, effect_behind, take_line};
+use crate::line::{Effect, Progress, effect_after, take_line};
 use crate::reply::{CommandReply, put_refusal, put_reply};
 use crate::run::reply_to_term;
 use crate::script::Script;
@@ -17,12 +17,12 @@ use term_core::Term;
 use term_text::{TextFault, read_terms, write_readable};
 use tool_io::{BAD_INPUT, ToolFault, write_lines};
 
-/// What stands in front of a line where nothing is begun.
+/// The prompt for a line if nothing is pending.
 const FRESH: &[u8] = b"> ";
-/// What stands in front of one where something is.
+/// The prompt for a line that follows a pending text.
 const BEGUN: &[u8] = b"| ";
 
-/// What is said where a term is no command, or none that can be given there.
+/// The comment after a term that is no command, or is a command that can't be given at this point.
 const COMMANDS: &[u8] = b"\
 % no command, or one while no table is open, or open while one is
 % commands, of session S, with an object T, a key K and a specification Spec:
@@ -34,7 +34,7 @@ const COMMANDS: &[u8] = b"\
 %   {select,S,Spec,Limit} {more,S,C}
 ";
 
-/// What the refusal of a command means, by its number.
+/// Returns what the error code of a command's reply means.
 fn meaning_of(number: u8) -> &'static [u8] {
     match number {
         50 => b"the object is no tuple with an element at the place of the key",
@@ -49,14 +49,14 @@ fn meaning_of(number: u8) -> &'static [u8] {
     }
 }
 
-/// Puts a line of a comment at the end.
+/// Appends the text as a comment line.
 fn put_comment<A: Allocator>(text: &[u8], lines: &mut Vec<u8, A>) -> Result<(), AllocError> {
     lines.extend_from_slice(b"% ")?;
     lines.extend_from_slice(text)?;
     lines.extend_from_slice(b"\n")
 }
 
-/// What stands behind the last line feed.
+/// Returns what follows the last line feed, or all if there is none.
 fn last_line(text: &[u8]) -> &[u8] {
     for start in (0..text.len()).rev() {
         if text[start] == b'\n' {
@@ -66,7 +66,7 @@ fn last_line(text: &[u8]) -> &[u8] {
     text
 }
 
-/// What stands before the first line feed.
+/// Returns what is before the first line feed, or all if there is none.
 fn first_line(text: &[u8]) -> &[u8] {
     for end in 0..text.len() {
         if text[end] == b'\n' {
@@ -76,7 +76,7 @@ fn first_line(text: &[u8]) -> &[u8] {
     text
 }
 
-/// How many bytes there are without the white space at the end.
+/// Returns the number of bytes without the white space at the end.
 fn size_shown(text: &[u8]) -> usize
     ensures { result ≤ length text.now }
 {
@@ -88,7 +88,7 @@ fn size_shown(text: &[u8]) -> usize
     0
 }
 
-/// Puts the room that these bytes take in a line: a tab for a tab, and a space for each other character.
+/// Appends blanks as wide as these bytes: a tab for a tab, and a space for each other character.
 fn put_room<A: Allocator>(text: &[u8], lines: &mut Vec<u8, A>) -> Result<(), AllocError> {
     for byte in text {
         match *byte {
@@ -100,7 +100,8 @@ fn put_room<A: Allocator>(text: &[u8], lines: &mut Vec<u8, A>) -> Result<(), All
     Ok(())
 }
 
-/// Puts the line of a text in which a byte stands, and a caret under it, as comments. White space at the end is passed.
+/// Appends, as comments, the line of a text that has this byte, and a caret under the byte. A byte in the white space
+/// at the end of the text is marked at the end of the last line that has other characters.
 fn put_marked<A: Allocator>(
     text: &[u8],
     at: usize,
@@ -116,7 +117,7 @@ fn put_marked<A: Allocator>(
     lines.extend_from_slice(b"^\n")
 }
 
-/// Puts the refusal of a text at the end, what it means, and where the byte stands that it names.
+/// Appends the error reply to a text, what it means, and the line with the byte that the fault names.
 fn put_refused<A: Allocator + Copy>(
     alloc: A,
     fault: TextFault,
@@ -132,7 +133,7 @@ fn put_refused<A: Allocator + Copy>(
     }
 }
 
-/// Puts the texts of these terms at the end as a person reads them, each with a dot on a line of its own.
+/// Appends the texts of these terms in readable form, each with a dot on a line of its own.
 fn put_terms<A: Allocator + Copy>(
     terms: &[Term<A>],
     lines: &mut Vec<u8, A>,
@@ -144,7 +145,7 @@ fn put_terms<A: Allocator + Copy>(
     Ok(())
 }
 
-/// Puts the line of a reply at the end as a person reads it; one that is no term within the limits stands as it is.
+/// Appends the line of a reply in readable form. A line that is no term within the limits is appended unchanged.
 fn put_read<A: Allocator + Copy>(
     alloc: A,
     line: &[u8],
@@ -156,7 +157,7 @@ fn put_read<A: Allocator + Copy>(
     }
 }
 
-/// Puts what the refusal of a specification means at the end.
+/// Appends a comment that says what a fault of a specification means.
 fn put_fault<A: Allocator + Copy>(
     alloc: A,
     fault: SpecFault,
@@ -166,7 +167,7 @@ fn put_fault<A: Allocator + Copy>(
     put_comment(meaning.as_bytes(), lines)
 }
 
-/// Puts what a reply means at the end, where it is a refusal.
+/// Appends a comment that says what a reply means, if it is an error.
 fn put_meaning<A: Allocator + Copy>(
     alloc: A,
     reply: &CommandReply<A>,
@@ -180,7 +181,7 @@ fn put_meaning<A: Allocator + Copy>(
     }
 }
 
-/// Puts a reply at the end as a person reads it, and what it means where it is a refusal.
+/// Appends a reply in readable form, and what it means if it is an error.
 fn put_told<A: Allocator + Copy>(
     alloc: A,
     reply: &CommandReply<A>,
@@ -192,7 +193,7 @@ fn put_told<A: Allocator + Copy>(
     put_meaning(alloc, reply, lines)
 }
 
-/// Puts the reply to a term at the end. There is no memory for more tables than can be counted.
+/// Appends the reply to a term. Fails if an allocation fails, or if 2^64 - 1 tables have been opened.
 fn put_answer<S: Part<A> + Drop, O: Part<A> + Drop, A: Allocator + Copy>(
     alloc: A,
     script: &mut Script<S, O, A>,
@@ -209,7 +210,7 @@ fn put_answer<S: Part<A> + Drop, O: Part<A> + Drop, A: Allocator + Copy>(
     put_told(alloc, &reply, lines)
 }
 
-/// Puts the replies to these terms at the end.
+/// Appends the replies to these terms. Returns `false`: nothing is pending any more.
 fn put_answers<S: Part<A> + Drop, O: Part<A> + Drop, A: Allocator + Copy>(
     alloc: A,
     script: &mut Script<S, O, A>,
@@ -225,7 +226,8 @@ fn put_answers<S: Part<A> + Drop, O: Part<A> + Drop, A: Allocator + Copy>(
     Ok(false)
 }
 
-/// Answers a text that was refused: whether it is begun still. Else its refusal is put at the end.
+/// Handles a rejected text. Returns `true` if it stays pending, since it only ends too early. Otherwise appends the
+/// error reply and returns `false`.
 fn refuse<A: Allocator + Copy>(
     alloc: A,
     fault: TextFault,
@@ -240,7 +242,8 @@ fn refuse<A: Allocator + Copy>(
     Ok(false)
 }
 
-/// Looks at a text that is begun, and answers whether it is still. Else what it comes to is put at the end.
+/// Examines a pending text. Returns `true` if it stays pending; otherwise appends its replies or its error reply and
+/// returns `false`.
 fn answer_text<S: Part<A> + Drop, O: Part<A> + Drop, A: Allocator + Copy>(
     alloc: A,
     script: &mut Script<S, O, A>,
@@ -258,7 +261,8 @@ fn answer_text<S: Part<A> + Drop, O: Part<A> + Drop, A: Allocator + Copy>(
     }
 }
 
-/// Answers a line, which stands from this place on behind what is begun: whether it is begun, too.
+/// Processes the line that begins at `start`, after the pending text. Returns whether the text, with the line, is
+/// pending afterwards.
 fn answer_line<S: Part<A> + Drop, O: Part<A> + Drop, A: Allocator + Copy>(
     alloc: A,
     script: &mut Script<S, O, A>,
@@ -270,7 +274,7 @@ fn answer_line<S: Part<A> + Drop, O: Part<A> + Drop, A: Allocator + Copy>(
     requires ordered { IsTrue (O.serves OrderedSet) }
     requires within { start ≤ length text.now }
 {
-    match effect_behind(&text[..start], &text[start..]) {
+    match effect_after(&text[..start], &text[start..]) {
         Effect::Passes => Ok(false),
         Effect::GoesOn => Ok(true),
         Effect::LooksAt => answer_text(alloc, script, text, false, lines),
@@ -278,7 +282,7 @@ fn answer_line<S: Part<A> + Drop, O: Part<A> + Drop, A: Allocator + Copy>(
     }
 }
 
-/// As `answer_line`; where the input ends there, the line of its prompt is ended first.
+/// Processes a line as `answer_line` does. If the input ends there, it first ends the line of the prompt.
 fn answer_taken<S: Part<A> + Drop, O: Part<A> + Drop, A: Allocator + Copy>(
     alloc: A,
     script: &mut Script<S, O, A>,
@@ -298,7 +302,8 @@ fn answer_taken<S: Part<A> + Drop, O: Part<A> + Drop, A: Allocator + Copy>(
     answer_line(alloc, script, text, start, lines)
 }
 
-/// Takes the next line of the input, and answers it.
+/// Reads the next line of the input after the pending text, and processes it. Returns whether the input may go on.
+/// Fails with `Memory` or `ReadFailed`.
 fn answer_next<S: Part<A> + Drop, O: Part<A> + Drop, A: Allocator + Copy, B: BufRead>(
     alloc: A,
     script: &mut Script<S, O, A>,
@@ -321,7 +326,8 @@ fn answer_next<S: Part<A> + Drop, O: Part<A> + Drop, A: Allocator + Copy, B: Buf
     }
 }
 
-/// Says that a line is waited for, and whether it goes behind another.
+/// Appends the prompt, which says whether a text is pending. Writes the gathered lines unless a whole line has been
+/// read ahead.
 fn ask<A: Allocator, W: Write>(
     is_begun: bool,
     ahead: &[u8],
@@ -337,7 +343,8 @@ fn ask<A: Allocator, W: Write>(
     }
 }
 
-/// Puts what it comes to that the end of the input gives up at the end, if something is begun.
+/// Examines the pending text at the end of the input, where it can't go on, and appends the result. Does nothing if no
+/// text is pending.
 fn give_up<S: Part<A> + Drop, O: Part<A> + Drop, A: Allocator + Copy>(
     alloc: A,
     script: &mut Script<S, O, A>,
@@ -353,7 +360,7 @@ fn give_up<S: Part<A> + Drop, O: Part<A> + Drop, A: Allocator + Copy>(
     answer_text(alloc, script, begun, true, lines)
 }
 
-/// Gives up what is begun at the end of the input, and writes the lines.
+/// Gives up the pending text at the end of the input, and writes the gathered lines.
 fn finish<S: Part<A> + Drop, O: Part<A> + Drop, A: Allocator + Copy, W: Write>(
     alloc: A,
     script: &mut Script<S, O, A>,
@@ -371,7 +378,7 @@ fn finish<S: Part<A> + Drop, O: Part<A> + Drop, A: Allocator + Copy, W: Write>(
     }
 }
 
-/// Answers an input line by line.
+/// Processes an input line by line. Fails with `Memory`, `ReadFailed` or `WriteFailed`.
 fn answer_input<S: Part<A> + Drop, O: Part<A> + Drop, A: Allocator + Copy, R: Read, W: Write>(
     alloc: A,
     script: &mut Script<S, O, A>,
@@ -395,9 +402,9 @@ fn answer_input<S: Part<A> + Drop, O: Part<A> + Drop, A: Allocator + Copy, R: Re
     Err(told(ToolFault::ReadFailed, writer, &mut lines))
 }
 
-/// As `run_shell`, for a person: `> ` stands in front of a line, `| ` of one that goes behind what is begun; lists of
-/// printable characters and binaries of them are written as such; and behind a refusal comments say what it means, of a
-/// text with its line and a caret under the byte.
+/// Runs a shell as `run_shell` does, for a person. The prompt of a line is `> `, or `| ` if the line follows a pending
+/// text. Lists of printable characters, and binaries of them, are written as text. After an error, comments say what it
+/// means; for a text they show its line and a caret under the byte. Fails with `Memory`, `ReadFailed` or `WriteFailed`.
 pub fn run_prompt<S: Part<A> + Drop, O: Part<A> + Drop, A: Allocator + Copy, R: Read, W: Write>(
     alloc: A,
     reader: &mut R,

@@ -17,26 +17,26 @@ use term_core::Term;
 use term_text::TextFault;
 use tool_io::put_line;
 
-/// What a command is replied.
+/// The reply to a command.
 #[derive(Drop)]
 pub enum CommandReply<A: Allocator = Global> {
     /// `true` or `false`.
     Flag(bool),
-    /// Objects, or answers, in a list.
+    /// A list of objects or of answers.
     Objects(Vec<Term<A>, A>),
-    /// Some answers of a walk, and the number of the continuation behind them.
+    /// Some answers of a walk, and the number of the continuation that gives the following ones.
     Piece(Vec<Term<A>, A>, u64),
-    /// A key, or the end of the table.
+    /// A key, or `None` for the end of the table.
     Key(Option<Term<A>>),
-    /// How many objects there are.
+    /// A number of objects.
     Count(u64),
-    /// A refusal, by its number.
+    /// An error, by its error code.
     Error(u8),
-    /// The refusal of a specification, for its fault.
+    /// The fault of a specification.
     Fault(SpecFault),
 }
 
-/// Puts the line of a reply at the end. After an `Err` the lines are as before.
+/// Appends the line of a reply. If an allocation fails, the lines are unchanged.
 pub fn put_reply<A: Allocator + Copy>(
     reply: &CommandReply<A>,
     lines: &mut Vec<u8, A>,
@@ -55,7 +55,7 @@ pub fn put_reply<A: Allocator + Copy>(
     }
 }
 
-/// Puts the line of a truth value at the end.
+/// Appends the line of a truth value. If an allocation fails, the lines are unchanged.
 #[tactic(auto, using(crate::proofs::TextLemmas::true_line, crate::proofs::TextLemmas::false_line))]
 fn put_flag<A: Allocator>(flag: bool, lines: &mut Vec<u8, A>) -> Result<(), AllocError>
     ensures ok { OnOk result (lines.new.items ≡ lines.old.items ++ line (boolean flag)) }
@@ -68,7 +68,7 @@ fn put_flag<A: Allocator>(flag: bool, lines: &mut Vec<u8, A>) -> Result<(), Allo
     }
 }
 
-/// Puts the line of a key, or of the end of the table, at the end.
+/// Appends the line of a key, or of the end of the table. If an allocation fails, the lines are unchanged.
 fn put_key<A: Allocator + Copy>(
     key: Option<&Term<A>>,
     lines: &mut Vec<u8, A>,
@@ -83,7 +83,7 @@ fn put_key<A: Allocator + Copy>(
     }
 }
 
-/// Puts the line of a refusal at the end.
+/// Appends the line of an error reply. If an allocation fails, the lines are unchanged.
 fn put_error<A: Allocator + Copy>(number: u8, lines: &mut Vec<u8, A>) -> Result<(), AllocError>
     ensures ok { OnOk result (lines.new.items ≡ lines.old.items ++ line (error number)) }
     ensures err { OnErr result (lines.new.items ≡ lines.old.items) }
@@ -92,8 +92,8 @@ fn put_error<A: Allocator + Copy>(number: u8, lines: &mut Vec<u8, A>) -> Result<
     put_line(b"{error,", &number, b"}.\n", lines)
 }
 
-/// Puts the line of a list of objects at the end. There may be more objects than a term may have, and as deep as a term
-/// may be.
+/// Appends the line of a list of objects. The list is written directly, since it may be longer or nested more deeply
+/// than a term can be. If an allocation fails, the lines are unchanged.
 fn put_objects<A: Allocator + Copy>(
     objects: &[Term<A>],
     lines: &mut Vec<u8, A>,
@@ -108,7 +108,7 @@ fn put_objects<A: Allocator + Copy>(
     lines.extend_from_slice(text.as_slice())
 }
 
-/// Puts the line of a piece, and the number of its continuation, at the end.
+/// Appends the line of a piece with the number of its continuation. If an allocation fails, the lines are unchanged.
 fn put_piece<A: Allocator + Copy>(
     answers: &[Term<A>],
     number: u64,
@@ -123,7 +123,7 @@ fn put_piece<A: Allocator + Copy>(
     lines.extend_from_slice(text.as_slice())
 }
 
-/// Puts the line of a count at the end.
+/// Appends the line of a count. If an allocation fails, the lines are unchanged.
 fn put_count<A: Allocator + Copy>(count: u64, lines: &mut Vec<u8, A>) -> Result<(), AllocError>
     ensures ok { OnOk result (lines.new.items ≡ lines.old.items ++ line (integer (pos count))) }
     ensures err { OnErr result (lines.new.items ≡ lines.old.items) }
@@ -134,7 +134,7 @@ fn put_count<A: Allocator + Copy>(count: u64, lines: &mut Vec<u8, A>) -> Result<
     lines.extend_from_slice(text.as_slice())
 }
 
-/// Puts the line of a specification's fault at the end.
+/// Appends the line of a specification's fault. If an allocation fails, the lines are unchanged.
 fn put_fault<A: Allocator + Copy>(
     fault: SpecFault,
     lines: &mut Vec<u8, A>,
@@ -147,7 +147,7 @@ fn put_fault<A: Allocator + Copy>(
     lines.extend_from_slice(text.as_slice())
 }
 
-/// Puts the line of the refusal of a text at the end. After an `Err` the lines are as before.
+/// Appends the line of the error reply to a text. If an allocation fails, the lines are unchanged.
 pub(crate) fn put_refusal<A: Allocator + Copy>(
     fault: TextFault,
     lines: &mut Vec<u8, A>,
@@ -160,7 +160,7 @@ pub(crate) fn put_refusal<A: Allocator + Copy>(
     lines.extend_from_slice(text.as_slice())
 }
 
-/// Puts these objects in a list at the end.
+/// Appends the text of a list of these objects.
 fn put_list<A: Allocator + Copy>(
     objects: &[Term<A>],
     text: &mut Vec<u8, A>,
@@ -173,7 +173,7 @@ fn put_list<A: Allocator + Copy>(
     put_elements(first, rest, text)
 }
 
-/// Puts a list that has these elements at the end.
+/// Appends the text of a list of at least one element.
 fn put_elements<A: Allocator + Copy>(
     first: &Term<A>,
     rest: &[Term<A>],
@@ -187,7 +187,7 @@ fn put_elements<A: Allocator + Copy>(
     text.extend_from_slice(b"]")
 }
 
-/// Puts these objects at the end, each behind a comma.
+/// Appends these objects, each after a comma.
 fn put_more<A: Allocator + Copy>(
     objects: &[Term<A>],
     text: &mut Vec<u8, A>,
@@ -200,7 +200,7 @@ fn put_more<A: Allocator + Copy>(
     Ok(())
 }
 
-/// Puts the line of a tuple of a list and a number at the end.
+/// Appends the line of a tuple of a list and a number.
 fn put_pair<A: Allocator + Copy>(
     answers: &[Term<A>],
     number: u64,
@@ -216,7 +216,7 @@ fn put_pair<A: Allocator + Copy>(
     text.extend_from_slice(b"}.\n")
 }
 
-/// Puts the line of a fault's number, and of what stands behind it, at the end.
+/// Appends the line with the error code of a specification's fault, its clause and its variable.
 fn put_arguments<A: Allocator>(fault: SpecFault, text: &mut Vec<u8, A>) -> Result<(), AllocError>
     ensures { OnOk result (text.new.items ≡ text.old.items ++ line (fault_term fault)) }
 {
@@ -227,7 +227,7 @@ fn put_arguments<A: Allocator>(fault: SpecFault, text: &mut Vec<u8, A>) -> Resul
     text.extend_from_slice(b"}.\n")
 }
 
-/// Puts the line of the number of a text's fault, and of the byte where it is met, at the end.
+/// Appends the line with the error code of a text's fault and its byte offset.
 fn put_place<A: Allocator>(fault: TextFault, text: &mut Vec<u8, A>) -> Result<(), AllocError>
     ensures { OnOk result (text.new.items ≡ text.old.items ++ line (refusal fault)) }
 {
@@ -237,7 +237,7 @@ fn put_place<A: Allocator>(fault: TextFault, text: &mut Vec<u8, A>) -> Result<()
     text.extend_from_slice(b"}.\n")
 }
 
-/// Puts a number behind a comma at the end, if there is one.
+/// Appends a comma and the number, or nothing if there is none.
 fn put_argument<A: Allocator>(
     argument: Option<u64>,
     text: &mut Vec<u8, A>,
@@ -252,7 +252,7 @@ fn put_argument<A: Allocator>(
     put_number(number, text)
 }
 
-/// Puts a number at the end.
+/// Appends a number in decimal.
 #[tactic(auto, using(crate::proofs::TextLemmas::number_bytes))]
 fn put_number<A: Allocator>(number: u64, text: &mut Vec<u8, A>) -> Result<(), AllocError>
     ensures { OnOk result (text.new.items ≡ text.old.items ++ text_of (integer (pos number))) }

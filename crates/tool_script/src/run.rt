@@ -17,7 +17,7 @@ use std::io::{Read, Write};
 use term_core::Term;
 use tool_io::{BAD_INPUT, ToolFault, out_of_memory, read_script, write_if_many, write_lines};
 
-/// The reply to a term: to the command that it says, else a refusal.
+/// Returns the reply to a term: to the command that it is, or error 65 if it is none. Fails if an allocation fails.
 pub(crate) fn reply_to_term<S: Part<A> + Drop, O: Part<A> + Drop, A: Allocator + Copy>(
     script: &mut Script<S, O, A>,
     term: &Term<A>,
@@ -35,7 +35,7 @@ pub(crate) fn reply_to_term<S: Part<A> + Drop, O: Part<A> + Drop, A: Allocator +
     }
 }
 
-/// Puts the line of the reply to a term at the end.
+/// Appends the line of the reply to a term. Fails if an allocation fails.
 pub(crate) fn put_next<S: Part<A> + Drop, O: Part<A> + Drop, A: Allocator + Copy>(
     script: &mut Script<S, O, A>,
     term: &Term<A>,
@@ -53,7 +53,8 @@ pub(crate) fn put_next<S: Part<A> + Drop, O: Part<A> + Drop, A: Allocator + Copy
     put_reply(&reply, lines)
 }
 
-/// Writes the replies to these terms.
+/// Replies to these terms and writes the lines of the replies. If memory runs out, the lines of the replies before are
+/// written.
 pub(crate) fn run_terms<S: Part<A> + Drop, O: Part<A> + Drop, A: Allocator + Copy, W: Write>(
     alloc: A,
     script: &mut Script<S, O, A>,
@@ -79,7 +80,7 @@ pub(crate) fn run_terms<S: Part<A> + Drop, O: Part<A> + Drop, A: Allocator + Cop
     write_lines(writer, &mut lines)
 }
 
-/// Reads a script, to the reader's end, and writes the replies to its terms.
+/// Reads a script, up to the reader's end, and writes the lines of the replies to its terms.
 pub(crate) fn run_with<
     S: Part<A> + Drop,
     O: Part<A> + Drop,
@@ -100,9 +101,9 @@ pub(crate) fn run_with<
     run_terms(alloc, script, terms.as_slice(), writer)
 }
 
-/// Reads a script, to the reader's end, and writes the line of the reply to each of its terms: sets and bags are made
-/// of parts `S`, ordered sets of parts `O`. A text that is refused writes nothing; where memory runs out, the
-/// lines of the replies to a beginning of the terms are written.
+/// Reads a script, up to the reader's end, and writes the line of the reply to each of its terms. Sets and bags are
+/// made of parts `S`, ordered sets of parts `O`. If the text is rejected, nothing is written. If memory runs out, the
+/// lines of the replies to the first terms are written.
 pub fn run_script<S: Part<A> + Drop, O: Part<A> + Drop, A: Allocator + Copy, R: Read, W: Write>(
     alloc: A,
     reader: &mut R,

@@ -9,7 +9,7 @@ use std::mem;
 use tables::Options;
 use tool_io::BAD_INPUT;
 
-/// The table that is open, by its kind, if one is.
+/// The open table, by its kind, or none.
 #[derive(Drop)]
 pub(crate) enum Current<S: Part<A> + Drop, O: Part<A> + Drop, A: Allocator = Global> {
     /// No table is open.
@@ -27,7 +27,7 @@ impl<S: Part<A> + Drop, O: Part<A> + Drop, A: Allocator + Copy> Current<S, O, A>
     ghost use Rattle.tool_script.specs.Script.{OpenTable as OpenState, newly_opened};
     ghost use Rattle.tool_script.specs.Scripts.{HasTable, open_options};
 
-    /// A table that is opened.
+    /// Opens a table with these options. Fails if an allocation fails.
     fn open(alloc: A, options: Options) -> Result<Self, AllocError>
         requires unordered { IsFalse (is_ordered options.kind) → IsOpenable S.serves options }
         requires ordered { IsTrue (is_ordered options.kind) → IsOpenable O.serves options }
@@ -41,7 +41,7 @@ impl<S: Part<A> + Drop, O: Part<A> + Drop, A: Allocator + Copy> Current<S, O, A>
         }
     }
 
-    /// Whether a table is open.
+    /// Returns whether a table is open.
     fn is_open(&self) -> bool
         ensures { (state : Option OpenState) → HasTable self.now state → result ≡ is_some state }
     {
@@ -53,13 +53,27 @@ impl<S: Part<A> + Drop, O: Part<A> + Drop, A: Allocator + Copy> Current<S, O, A>
     }
 }
 
-/// The table that is open, if one is; how many were opened so far; and the walks that can go on.
-#[derive(Drop)]
+/// The open table, if there is one; the number of tables opened so far; and the walks that can go on.
 pub(crate) struct Script<S: Part<A> + Drop, O: Part<A> + Drop, A: Allocator = Global> {
     alloc: A,
     current: Current<S, O, A>,
     count: u64,
     walks: Walks<A>,
+}
+
+/// By hand: a function that drops one has one call in its proof, and not a case for each way in which its parts are dropped.
+impl<S: Part<A> + Drop, O: Part<A> + Drop, A: Allocator> Drop for Script<S, O, A> {
+    fn drop(self) {
+        let Script {
+            alloc,
+            current,
+            count: _count,
+            walks,
+        } = self;
+        drop(alloc);
+        drop(current);
+        drop(walks);
+    }
 }
 
 impl<S: Part<A> + Drop, O: Part<A> + Drop, A: Allocator + Copy> Script<S, O, A> {
@@ -72,7 +86,7 @@ impl<S: Part<A> + Drop, O: Part<A> + Drop, A: Allocator + Copy> Script<S, O, A> 
     ghost use Rattle.tool_script.specs.Script.{beginning};
     ghost use Rattle.tool_script.specs.Scripts.{HasState, IsStep};
 
-    /// A script at its beginning.
+    /// Returns a script at its beginning: no table was opened.
     pub(crate) fn new(alloc: A) -> Self
         ensures state { HasState result beginning }
         ensures count { result.count ≡ 0 }
@@ -85,14 +99,15 @@ impl<S: Part<A> + Drop, O: Part<A> + Drop, A: Allocator + Copy> Script<S, O, A> 
         }
     }
 
-    /// Whether as many tables were opened as can be counted.
+    /// Returns whether 2^64 - 1 tables were opened, so that no more can be counted.
     pub(crate) fn is_full(&self) -> bool
         ensures { IsFalse result → self.now.count < 18446744073709551615 }
     {
         self.count == u64::MAX
     }
 
-    /// Opens a table.
+    /// Opens a table. Replies with error 65 if a table is open, and with error 60 if the options are outside their
+    /// ranges. Fails if an allocation fails.
     fn open(
         &mut self,
         kind: TableKind,
@@ -119,7 +134,8 @@ impl<S: Part<A> + Drop, O: Part<A> + Drop, A: Allocator + Copy> Script<S, O, A> 
         Ok(CommandReply::Flag(true))
     }
 
-    /// Closes the table, and lets its walks go, which can't go on any more.
+    /// Closes the table and replies with its objects in walk order; error 65 if none is open. Drops the walks, which
+    /// can't go on any more.
     fn close(&mut self) -> Result<CommandReply<A>, AllocError>
         ensures count { self.new.count ≡ self.old.count }
         ensures answered { IfOk result (λ reply.
@@ -133,7 +149,7 @@ impl<S: Part<A> + Drop, O: Part<A> + Drop, A: Allocator + Copy> Script<S, O, A> 
         }
     }
 
-    /// Hands what a session asks to the table.
+    /// Passes a session's request to the open table. Replies with error 65 if none is open.
     fn forward(&mut self, number: i64, ask: Ask<'_, A>) -> Result<CommandReply<A>, AllocError>
         ensures count { self.new.count ≡ self.old.count }
         ensures answered { IfOk result (λ reply.
@@ -146,7 +162,7 @@ impl<S: Part<A> + Drop, O: Part<A> + Drop, A: Allocator + Copy> Script<S, O, A> 
         }
     }
 
-    /// Has a session walk the table.
+    /// Has a session walk the open table. Replies with error 65 if none is open.
     fn walk(
         &mut self,
         number: i64,
@@ -165,7 +181,7 @@ impl<S: Part<A> + Drop, O: Part<A> + Drop, A: Allocator + Copy> Script<S, O, A> 
         }
     }
 
-    /// Does what a command says.
+    /// Obeys a command and returns the reply. Fails if an allocation fails.
     pub(crate) fn obey(&mut self, command: Command<'_, A>) -> Result<CommandReply<A>, AllocError>
         requires unordered { ServesUnordered S.serves }
         requires ordered { IsTrue (O.serves OrderedSet) }

@@ -1,4 +1,4 @@
-//! What a session is replied that asks something of its table.
+//! The reply to a session that requests something of its table.
 ghost use Rattle.std.specs.Prelude.{◌≡◌, IsTrue, IfOk};
 ghost use Rattle.tool_script.specs.Commands.{ask_of};
 ghost use Rattle.tool_script.specs.Replies.{reply_term};
@@ -14,14 +14,15 @@ use tables::{
 use term_core::{Refused, Term};
 use walks::{first, next};
 
-/// Why an object was refused.
+/// Returns why an object was rejected, and drops the object.
 fn fault_of<A: Allocator>(refused: Refused<Term<A>, Fault>) -> Fault
     ensures { result ≡ refused.fault }
 {
     refused.fault
 }
 
-/// The reply to what was done, or refused.
+/// Returns the reply to a call that returns no value: `true`, or the error code of its fault. Fails if the call ran out
+/// of memory.
 fn reply_to<A: Allocator>(outcome: Result<(), Fault>) -> Result<CommandReply<A>, AllocError>
     ensures { IfOk result (λ reply. IsReplied outcome (reply_term reply)) }
 {
@@ -32,7 +33,7 @@ fn reply_to<A: Allocator>(outcome: Result<(), Fault>) -> Result<CommandReply<A>,
     }
 }
 
-/// Makes the call that a session asks for, and says what it is replied.
+/// Makes the call that a session requests, and returns the reply. Fails if an allocation fails.
 pub(crate) fn perform<A: Allocator + Copy, T: Turns<A>>(
     turns: &mut T,
     ask: Ask<'_, A>,

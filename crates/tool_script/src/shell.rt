@@ -1,4 +1,4 @@
-//! A shell: commands are replied to while they come, from a reader to a writer.
+//! A shell: replies to commands as they arrive, from a reader to a writer.
 ghost use Rattle.std.specs.Prelude.{◌≡◌, ◌≢◌, ◌≤◌, ℕ, Option, List, [], false, if◌then◌else◌, IfErr, IfOk, IsTrue, MatchBool, OnErr, OnOk, length, take, drop};
 ghost use Rattle.std.specs.Io.Buffered.{reader_remaining};
 ghost use Rattle.part_core.specs.declared.kind.TableKind.TheVariants.{OrderedSet};
@@ -11,7 +11,7 @@ ghost use Rattle.tool_script.specs.Scripts.{HasState};
 ghost use Rattle.tool_script.specs.Shell.{WritesAnswers, StopsShell};
 ghost use Rattle.tool_script.specs.Shells.{AreAnswered, StopsTerms, IsRefused, IsLookedAt, StopsText, StopsLine, IsLineAnswered, Stands, StopsHolding, IsToldBy};
 
-use crate::line::{Effect, Progress, effect_behind, take_line};
+use crate::line::{Effect, Progress, effect_after, take_line};
 use crate::reply::put_refusal;
 use crate::run::put_next;
 use crate::script::Script;
@@ -22,7 +22,7 @@ use term_core::Term;
 use term_text::{TextFault, read_terms};
 use tool_io::{ToolFault, write_if_many, write_lines};
 
-/// Puts the line of the reply to a term at the end. There is no memory for more tables than can be counted.
+/// Appends the line of the reply to a term. Fails if an allocation fails, or if 2^64 - 1 tables have been opened.
 fn put_counted<S: Part<A> + Drop, O: Part<A> + Drop, A: Allocator + Copy>(
     script: &mut Script<S, O, A>,
     term: &Term<A>,
@@ -40,8 +40,8 @@ fn put_counted<S: Part<A> + Drop, O: Part<A> + Drop, A: Allocator + Copy>(
     put_next(script, term, lines)
 }
 
-/// Puts the lines of the replies to these terms at the end, and writes them where they are many. Nothing is begun
-/// still.
+/// Appends the lines of the replies to these terms, and writes the gathered lines whenever they have at least 65,536
+/// bytes. Returns `false`: nothing is pending any more.
 fn put_replies<S: Part<A> + Drop, O: Part<A> + Drop, A: Allocator + Copy, W: Write>(
     script: &mut Script<S, O, A>,
     terms: &[Term<A>],
@@ -64,14 +64,14 @@ fn put_replies<S: Part<A> + Drop, O: Part<A> + Drop, A: Allocator + Copy, W: Wri
     Ok(false)
 }
 
-/// Whether no memory was given.
+/// Returns whether the fault is out of memory.
 fn is_want_of_memory(fault: TextFault) -> bool
     ensures { MatchBool result (fault ≡ TextFault.Memory) (fault ≢ TextFault.Memory) }
 {
     matches!(fault, TextFault::Memory)
 }
 
-/// Whether a text of so many bytes that was refused is begun still: it ends too early, and isn't given up.
+/// Returns whether a rejected text of `size` bytes stays pending: it ends too early, and is not given up.
 pub(crate) fn is_begun_still(fault: TextFault, size: usize, is_given_up: bool) -> bool
     ensures { MatchBool result ((fault ≡ TextFault.Syntax size) × (is_given_up ≡ false))
         (is_given_up ≡ false → fault ≢ TextFault.Syntax size) }
@@ -82,8 +82,8 @@ pub(crate) fn is_begun_still(fault: TextFault, size: usize, is_given_up: bool) -
     }
 }
 
-/// Answers a text of so many bytes that was refused: whether it is begun still. Else its refusal is put at the end of
-/// the lines.
+/// Handles a rejected text of `size` bytes. Returns `true` if it stays pending. Otherwise appends the error reply and
+/// returns `false`. Fails with `Memory`.
 fn refuse<A: Allocator + Copy>(
     fault: TextFault,
     size: usize,
@@ -107,8 +107,8 @@ fn refuse<A: Allocator + Copy>(
     }
 }
 
-/// Looks at a text that is begun, and answers whether it is still. Else its replies, or its refusal, are put at the end
-/// of the lines.
+/// Examines a pending text. Returns `true` if it stays pending; otherwise appends its replies or its error reply and
+/// returns `false`.
 fn answer_text<S: Part<A> + Drop, O: Part<A> + Drop, A: Allocator + Copy, W: Write>(
     alloc: A,
     script: &mut Script<S, O, A>,
@@ -130,7 +130,8 @@ fn answer_text<S: Part<A> + Drop, O: Part<A> + Drop, A: Allocator + Copy, W: Wri
     }
 }
 
-/// Answers a line, which stands from this place on behind what is begun: whether it is begun, too.
+/// Processes the line that begins at `start`, after the pending text. Returns whether the text, with the line, is
+/// pending afterwards.
 fn answer_line<S: Part<A> + Drop, O: Part<A> + Drop, A: Allocator + Copy, W: Write>(
     alloc: A,
     script: &mut Script<S, O, A>,
@@ -149,7 +150,7 @@ fn answer_line<S: Part<A> + Drop, O: Part<A> + Drop, A: Allocator + Copy, W: Wri
         (take start text.now) (drop start text.now)
         (W.contents writer.old) (W.contents writer.new) lines.old.items lines.new.items) }
 {
-    match effect_behind(&text[..start], &text[start..]) {
+    match effect_after(&text[..start], &text[start..]) {
         Effect::Passes => Ok(false),
         Effect::GoesOn => Ok(true),
         Effect::LooksAt => answer_text(alloc, script, text, false, writer, lines),
@@ -157,7 +158,7 @@ fn answer_line<S: Part<A> + Drop, O: Part<A> + Drop, A: Allocator + Copy, W: Wri
     }
 }
 
-/// Writes the lines before a read that may wait: no whole line is there.
+/// Writes the gathered lines before a read that may block, which is when no whole line has been read ahead.
 pub(crate) fn write_before<A: Allocator, W: Write>(
     ahead: &[u8],
     writer: &mut W,
@@ -173,7 +174,7 @@ pub(crate) fn write_before<A: Allocator, W: Write>(
     write_lines(writer, lines)
 }
 
-/// Lets go what was begun, unless it is still.
+/// Clears the pending text unless it is still pending.
 pub(crate) fn keep<A: Allocator>(begun: &mut Vec<u8, A>, is_kept: bool)
     ensures { begun.new.items ≡ (if is_kept then begun.old.items else []) }
 {
@@ -182,7 +183,7 @@ pub(crate) fn keep<A: Allocator>(begun: &mut Vec<u8, A>, is_kept: bool)
     }
 }
 
-/// Takes the next line of the input, and answers it.
+/// Reads the next line of the input after the pending text, and processes it. Returns whether the input may go on.
 fn answer_next<S: Part<A> + Drop, O: Part<A> + Drop, A: Allocator + Copy, B: BufRead, W: Write>(
     alloc: A,
     script: &mut Script<S, O, A>,
@@ -214,7 +215,8 @@ fn answer_next<S: Part<A> + Drop, O: Part<A> + Drop, A: Allocator + Copy, B: Buf
     }
 }
 
-/// Writes the lines that were gathered before a shell ends early, and answers how it ends.
+/// Writes the lines that were gathered before a shell ends early. Returns the fault with which it ends: `fault`, or
+/// `WriteFailed` if that write fails.
 pub(crate) fn told<A: Allocator, W: Write>(
     fault: ToolFault,
     writer: &mut W,
@@ -228,7 +230,7 @@ pub(crate) fn told<A: Allocator, W: Write>(
     }
 }
 
-/// Gives up what is begun at the end of the input, and writes the lines.
+/// Gives up the pending text at the end of the input, and writes the gathered lines.
 fn finish<S: Part<A> + Drop, O: Part<A> + Drop, A: Allocator + Copy, W: Write>(
     alloc: A,
     script: &mut Script<S, O, A>,
@@ -256,7 +258,7 @@ fn finish<S: Part<A> + Drop, O: Part<A> + Drop, A: Allocator + Copy, W: Write>(
     }
 }
 
-/// Answers an input line by line.
+/// Processes an input line by line, up to its end.
 fn answer_input<S: Part<A> + Drop, O: Part<A> + Drop, A: Allocator + Copy, R: Read, W: Write>(
     alloc: A,
     script: &mut Script<S, O, A>,
@@ -284,11 +286,11 @@ fn answer_input<S: Part<A> + Drop, O: Part<A> + Drop, A: Allocator + Copy, R: Re
     Err(told(ToolFault::ReadFailed, writer, &mut lines))
 }
 
-/// Reads commands line by line, to the reader's end, and writes the line of the reply to each while they come: sets and
-/// bags are made of parts `S`, ordered sets of parts `O`. What is begun is looked at when a line has a dot before white
-/// space, `%` or its end. Where it spells terms these are replied; where it ends too early the next line goes behind
-/// it, but for an empty line or the end of the input, which give it up; and else its refusal is replied, and none of
-/// its commands is obeyed. Where memory runs out or the reader fails, what was answered before is written.
+/// Reads commands line by line, up to the reader's end, and writes the line of the reply to each as they arrive. Sets
+/// and bags are made of parts `S`, ordered sets of parts `O`. The pending text is examined when a line has a dot before
+/// white space, `%` or its end. If it spells terms, these are replied to. If it ends too early, the next line is
+/// appended to it; an empty line or the end of the input gives it up instead. Otherwise the reply is an error, and none
+/// of its commands is obeyed. If memory runs out or the reader fails, the output up to then is written.
 #[tactic(auto, using(crate::proofs::ShellLemmas::stops_first))]
 pub fn run_shell<S: Part<A> + Drop, O: Part<A> + Drop, A: Allocator + Copy, R: Read, W: Write>(
     alloc: A,

@@ -1,4 +1,4 @@
-//! What a session is replied that walks its table by a specification, or goes on with a walk that it began.
+//! The reply to a session that walks its table by a specification, or goes on with a walk that it began.
 ghost use Rattle.std.specs.Prelude.{◌≡◌, ◌≢◌, ◌<◌, IsTrue, IfOk, IfErr, IfSome, Option, None, List, is_some, get_or, set};
 ghost use Rattle.mcode.specs.Answer.{answer_of};
 ghost use Rattle.mspec_syntax.specs.Faults.{IsRefusal};
@@ -26,10 +26,10 @@ use walks::{
     steps_are_pieces, whole_walks_count, whole_walks_remove, whole_walks_select,
 };
 
-/// The walks that can go on, by the numbers of their continuations; none in the place of one that is spent.
+/// The walks that can go on, by the numbers of their continuations; `None` for one that is spent.
 pub(crate) type Walks<A> = Vec<Option<Continuation<A>>, A>;
 
-/// Lets all walks go. Their numbers stay taken.
+/// Drops all walks. Their numbers are not used again.
 pub(crate) fn let_go<A: Allocator>(walks: &mut [Option<Continuation<A>>])
     ensures { AreLetGo walks.old walks.new }
 {
@@ -38,7 +38,8 @@ pub(crate) fn let_go<A: Allocator>(walks: &mut [Option<Continuation<A>>])
     }
 }
 
-/// What a specification asks of the objects of a table with this `keypos`.
+/// Compiles a term to the query that it means as a specification, for a table with this `keypos`. Fails with the fault
+/// of the term, or with `Memory`.
 fn query_of<A: Allocator + Copy>(
     alloc: A,
     term: &Term<A>,
@@ -52,7 +53,7 @@ fn query_of<A: Allocator + Copy>(
     Ok(Query::from_spec(alloc, &specification, keypos)?)
 }
 
-/// The reply to a term that is no specification.
+/// Returns the reply to a term that is no specification. Fails if the fault is out of memory.
 fn refusal<A: Allocator>(fault: SpecFault) -> Result<CommandReply<A>, AllocError>
     ensures { IfOk result (λ reply. (fault ≢ SpecFault.Memory)
         × (reply_term reply ≡ fault_term fault)) }
@@ -63,7 +64,7 @@ fn refusal<A: Allocator>(fault: SpecFault) -> Result<CommandReply<A>, AllocError
     }
 }
 
-/// All answers.
+/// Replies to `select`: all answers.
 fn select_all<A: Allocator + Copy, T: Turns<A>>(
     alloc: A,
     turns: &mut T,
@@ -83,7 +84,7 @@ fn select_all<A: Allocator + Copy, T: Turns<A>>(
     }
 }
 
-/// How many objects are answered `true`.
+/// Replies to `select_count`: the number of objects for which the answer is `true`.
 fn count_all<A: Allocator + Copy, T: Turns<A>>(
     alloc: A,
     turns: &mut T,
@@ -103,7 +104,7 @@ fn count_all<A: Allocator + Copy, T: Turns<A>>(
     }
 }
 
-/// How many there were, and they are gone.
+/// Replies to `select_delete`: deletes the objects for which the answer is `true`, and returns their number.
 fn delete_all<A: Allocator + Copy, T: Turns<A>>(
     alloc: A,
     turns: &mut T,
@@ -127,7 +128,7 @@ fn delete_all<A: Allocator + Copy, T: Turns<A>>(
     }
 }
 
-/// Replies to a step of a walk: a piece, behind which the walk goes on by a new continuation, or the end.
+/// Replies to a step of a walk: a piece with the number of a new continuation, by which the walk goes on, or the end.
 fn keep<A: Allocator + Copy>(
     walks: &mut Walks<A>,
     step: Step<A>,
@@ -147,7 +148,7 @@ fn keep<A: Allocator + Copy>(
     }
 }
 
-/// Begins a walk in pieces.
+/// Begins a walk in pieces, and replies with its first piece.
 fn begin<A: Allocator + Copy, T: Turns<A>>(
     alloc: A,
     turns: &mut T,
@@ -171,7 +172,7 @@ fn begin<A: Allocator + Copy, T: Turns<A>>(
     }
 }
 
-/// A limit from 1 on.
+/// Returns the limit if it is at least 1, else `None`.
 fn limit_in(limit: i64) -> Option<u64>
     ensures limit { result ≡ limit_in limit }
     ensures some { IfSome result (λ n. 0 < n) }
@@ -182,7 +183,8 @@ fn limit_in(limit: i64) -> Option<u64>
     Some(limit as u64)
 }
 
-/// At most so many answers, and how the walk goes on. The limit is looked at before the specification is.
+/// Replies to `select` with a limit: at most `limit` answers, and the number of the continuation. The limit is checked
+/// before the specification: error 63 if it is below 1.
 fn select_some<A: Allocator + Copy, T: Turns<A>>(
     alloc: A,
     turns: &mut T,
@@ -206,7 +208,7 @@ fn select_some<A: Allocator + Copy, T: Turns<A>>(
     }
 }
 
-/// Whether a walk can go on in this place, and is one of this table and session.
+/// Returns whether this place has a continuation of this table and session.
 fn is_own<A: Allocator>(place: &Option<Continuation<A>>, table: u64, session: u8) -> bool
     ensures { result ≡ is_some (own_by table session place.now) }
 {
@@ -216,7 +218,7 @@ fn is_own<A: Allocator>(place: &Option<Continuation<A>>, table: u64, session: u8
     }
 }
 
-/// Takes the walk out of its place, if it is one of this table and session.
+/// Takes the continuation out of its place and returns it, if it belongs to this table and session.
 fn take_own<A: Allocator>(
     place: &mut Option<Continuation<A>>,
     table: u64,
@@ -231,7 +233,8 @@ fn take_own<A: Allocator>(
     None
 }
 
-/// Takes the walk out of this place, if there is one of this table and session.
+/// Takes the continuation out of the place with this index and returns it, if it belongs to this table and session.
+/// Returns `None` also if there is no such place.
 fn take_at<A: Allocator>(
     walks: &mut Walks<A>,
     place: usize,
@@ -248,7 +251,7 @@ fn take_at<A: Allocator>(
     }
 }
 
-/// Takes the walk of a continuation's number out of its place, if there is one of this table and session.
+/// Takes the continuation of this number out of its place and returns it, if it belongs to this table and session.
 fn take_walk<A: Allocator>(
     walks: &mut Walks<A>,
     number: i64,
@@ -264,7 +267,8 @@ fn take_walk<A: Allocator>(
     take_at(walks, number as usize, table, session)
 }
 
-/// Goes on with the walk of a continuation, which is spent by that.
+/// Goes on with the walk of a continuation, which is thereby spent. Replies with error 62 if there is no such
+/// continuation of this session and table.
 fn go_on<A: Allocator + Copy, T: Turns<A>>(
     alloc: A,
     turns: &mut T,
@@ -288,7 +292,7 @@ fn go_on<A: Allocator + Copy, T: Turns<A>>(
     }
 }
 
-/// Walks the table as a session asks, and says what it is replied.
+/// Walks the table as a session requests, and returns the reply. Fails if an allocation fails.
 pub(crate) fn walk<A: Allocator + Copy, T: Turns<A>>(
     alloc: A,
     turns: &mut T,

@@ -1,5 +1,5 @@
--- What is said of a body depends on the depths and the budgets of those behind it alone; so code has one first fault and
--- one greatest depth.
+-- What holds for a body depends only on the depths and the budgets of those with higher numbers, so code has one first
+-- fault and one greatest depth.
 use Rattle.std.specs.Prelude.{ℕ, zero, suc, ◌≡◌, ◌+◌, ◌-◌, ◌≤◌, Some, List, length, slice_get, slice_index}
 use Rattle.std.proofs.Common.{arith, refl, sym, ap, subst, ◌∙◌, inl, inr}
 use Rattle.std.proofs.lemmas.Bool.{cases_lt}
@@ -22,7 +22,7 @@ use Rattle.verifier.specs.Faults.{IsBodyFault, IsFirstFault}
 use Rattle.verifier.proofs.FaultLemmas.{faulty_untyped}
 use Rattle.verifier.proofs.OnceLemmas.{body_depth_once, body_fault_once}
 
--- ---- one body, by depths that agree behind it
+-- ---- one body, with depths that agree after it
 
 module _ (p : Program) (ds es : List ℕ) (same : AgreeBehind p.around.number ds es) where
   pub inner_agrees : (i : Instr) (s : Shape) → IsPlaced p i → inner_depth p ds i s ≡ inner_depth p es i s
@@ -97,7 +97,7 @@ bodies_forward p from ds budgets typed b low inside =
     let shapes = typed.bodies b low inside in
     typed_forward (body_of p b) ds shapes.0 shapes.1
 
--- depths from a body on are one
+-- the depths from a body on are unique
 pub depths_agree : (p : Program) (from : ℕ) (ds es : List ℕ) → AreBodyDepths p from ds → AreBodyDepths p from es → (c : ℕ) → from ≤ c → slice_index ds c ≡ slice_index es c
 depths_agree p from ds es are again c low = by (suc (length p.around.routines) - c) c low (omega arith)
   where
@@ -122,7 +122,7 @@ typed_from p from typed = record {
   few = λ b low. typed.few b;
 }
 
--- what is typed from a body on is typed from a later one on
+-- code that is typed from a body on is typed from a later one on
 pub typed_later : (p : Program) (from later : ℕ) (ds budgets : List ℕ) → from ≤ later → AreTypedFrom p from ds budgets → AreTypedFrom p later ds budgets
 typed_later p from later ds budgets more typed = record {
   bodies = λ b low inside. typed.bodies b (omega (arith, low, more)) inside;
@@ -131,14 +131,14 @@ typed_later p from later ds budgets more typed = record {
   few = λ b low. typed.few b (omega (arith, low, more));
 }
 
--- what is known behind a body in two ways agrees there
+-- depths and budgets after a body that are found in two ways agree
 behind_agrees : (p : Program) (b : ℕ) (ds bs es cs : List ℕ) → AreTypedFrom p (suc b) ds bs → AreTypedFrom p (suc b) es cs → AgreeBehind (body_of p b).around.number ds es × AgreeBehind (body_of p b).around.number bs cs
 behind_agrees p b ds bs es cs one two = (
   λ c behind. depths_agree p (suc b) ds es one.deep two.deep c (omega (arith, behind, least_number_of_body p b)),
   λ c behind. budgets_agree p (suc b) bs cs (bodies_forward p (suc b) ds bs one) one.limits two.limits c (omega (arith, behind, least_number_of_body p b)),
 )
 
--- a body that is typed, with a budget within the limit, isn't at fault
+-- a body that is typed, with a budget within the limit, is not at fault
 pub fault_excludes : (p : Program) (b : ℕ) (told : Fault) (ds bs : List ℕ) → IsFirstFault p b told → AreTypedFrom p b ds bs → ⊥
 fault_excludes p b told ds bs first typed =
     let q = body_of p b in
@@ -156,7 +156,7 @@ fault_excludes p b told ds bs first typed =
 pub faulty_code_untyped : (p : Program) (b : ℕ) (told : Fault) → IsFirstFault p b told → IsTyped p → ⊥
 faulty_code_untyped p b told first typed = fault_excludes p b told typed.depths typed.budgets first (typed_from p b typed)
 
--- in one body one fault is told
+-- a body has only one first fault
 same_body : (p : Program) (b : ℕ) (told again : Fault) → IsFirstFault p b told → IsFirstFault p b again → told ≡ again
 same_body p b told again one two =
     let q = body_of p b in

@@ -16,12 +16,12 @@ use Rattle.verifier_types.specs.declared.fault.Fault.{Fault}
 use Rattle.verifier_types.proofs.FaultLemmas.{contradicts}
 use Rattle.verifier.proofs.PassLemmas.{shape_begun, begins_once}
 
--- what falls into the next instruction, where this one is there or not
+-- what falls into the next instruction, whether or not this one exists
 falls_same : (p : Program) (s t : Shape) (o : Option Instr) → ((i : Instr) → o ≡ Some i → s ≡ t) → option_and_then (λ i. falling_shape p i s) o ≡ option_and_then (λ i. falling_shape p i t) o
 falls_same p s t None same = refl
 falls_same p s t (Some i) same = ap (falling_shape p i) (same i refl)
 
--- states of typed instructions are those that the pass knows
+-- the states of typed instructions are those that the pass computes
 pub same_falling : (p : Program) (ds : List ℕ) (shapes : ℕ → Shape) (n : ℕ) → AreTypedBelow p ds shapes n → falling_into p shapes n ≡ falling_into p (shape_at p) n
 same_falling p ds shapes zero typed = refl
 same_falling p ds shapes (suc n) typed =

@@ -22,7 +22,7 @@ use Rattle.verifier.proofs.FaultLemmas.{same_falling}
 
 -- ---- states
 
--- typed instructions have one state each
+-- typed instructions have only one state each
 pub shapes_once : (p : Program) (ds es : List ℕ) (shapes again : ℕ → Shape) (n m pc : ℕ) (i : Instr) → AreTypedBelow p ds shapes n → AreTypedBelow p es again m → pc < n → pc < m → slice_get p.instructions pc ≡ Some i → shapes pc ≡ again pc
 shapes_once p ds es shapes again n m pc i typed typed_again below below_again here =
     let falls : falling_into p shapes pc ≡ falling_into p again pc =
@@ -64,7 +64,7 @@ all_fit : (p : Program) (f : Frame) (place : ℕ) → slice_get p.frames place �
 all_fit p f place here fit =
     subst (IsFrameFit p) (get_or_from_slice_get p.frames place f f here) (fit place f (slice_get_within p.frames place f here))
 
--- an earlier frame that isn't fit
+-- there is no earlier frame that is not fit
 none_earlier : (p : Program) (told again : Fault) → (a : IsFirstUnfit p told) → (b : IsFirstUnfit p again) → a.place < b.place → ⊥
 none_earlier p told again a b less =
     let inside = slice_get_within p.frames a.place a.frame a.here in
@@ -86,11 +86,11 @@ unfit_once p told again a b = elim (cases_lt a.place b.place) [
   ]
 ]
 
--- what falls into an instruction that others before it reach
+-- what falls into an instruction after typed instructions
 falls_alike : (p : Program) (ds : List ℕ) (shapes again : ℕ → Shape) (pc : ℕ) → AreTypedBelow p ds shapes pc → AreTypedBelow p ds again pc → falling_into p shapes pc ≡ falling_into p again pc
 falls_alike p ds shapes again pc typed typed_again = same_falling p ds shapes pc typed ∙ sym (same_falling p ds again pc typed_again)
 
--- an earlier instruction that isn't typed
+-- there is no earlier instruction that is not typed
 none_before : (p : Program) (ds : List ℕ) (told again : Fault) → (a : IsFirstUntyped p ds told) → (b : IsFirstUntyped p ds again) → a.pc < b.pc → ⊥
 none_before p ds told again a b less =
     let pc = a.pc in
@@ -106,7 +106,7 @@ none_before p ds told again a b less =
           contradicts p ds pc a.instr (b.shapes pc) told here.typed here.inner (subst (λ s. IsFaultIn p ds pc a.instr s told) same h.1)
     ]
 
--- the same instruction
+-- the same instruction has only one fault
 untyped_here : (p : Program) (ds : List ℕ) (told again : Fault) → (a : IsFirstUntyped p ds told) → (b : IsFirstUntyped p ds again) → a.pc ≡ b.pc → told ≡ again
 untyped_here p ds told again a b same =
     let falls : falling_into p a.shapes a.pc ≡ falling_into p b.shapes b.pc =
@@ -142,11 +142,11 @@ untyped_once p ds told again a b = elim (cases_lt a.pc b.pc) [
   ]
 ]
 
--- a frame that isn't fit, where all are
+-- there is no frame that is not fit if all are
 unfit_alone : (p : Program) (told : Fault) → (a : IsFirstUnfit p told) → All (IsFrameFit p) p.frames → ⊥
 unfit_alone p told a fit = a.unfit (all_fit p a.frame a.place a.here fit)
 
--- an instruction, where there is none
+-- there is an instruction that is not typed only if there is an instruction
 some_instruction : (p : Program) (ds : List ℕ) (told : Fault) → (a : IsFirstUntyped p ds told) → length p.instructions ≡ 0 → ⊥
 some_instruction p ds told a none = let inside = slice_get_within p.instructions a.pc a.instr a.here in absurd (omega (arith, inside, none))
 

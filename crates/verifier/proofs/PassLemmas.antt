@@ -1,4 +1,4 @@
--- The one state in which each instruction can begin, and the pass that knows it.
+-- The one state in which each instruction can begin, and the pass that computes it.
 use Rattle.std.specs.Prelude.{ℕ, zero, suc, ◌≡◌, ◌+◌, ◌<◌, ◌≤◌, ◌⊎◌, max, Bool, true, false, Option, Some, None, List, [], ◌∷◌, ◌++◌, length, set, replicate, slice_get, All}
 use Rattle.std.specs.Option.{option_and_then}
 use Rattle.std.proofs.Common.{arith, refl, sym, ap, subst, ◌∙◌, inl, inr, get_or}
@@ -22,12 +22,12 @@ use Rattle.verifier.specs.Pass.{begun, shape_at, fallen, IsGreatestBelow, IsInne
 use Rattle.verifier_types.proofs.ShapeLemmas.{length-frame_kinds}
 use native.Mathlib.Numerals.{unary_clauses}
 
--- the state is begun by what falls into it and its frame
+-- the state of an instruction is begun by what falls into it and its frame
 pub shape_begun : (p : Program) (pc : ℕ) → shape_at p pc ≡ begun p (falling_into p (shape_at p) pc) (frame_at p.frames pc)
 shape_begun p zero = refl
 shape_begun p (suc pc) = refl
 
--- an instruction begins in one state
+-- an instruction begins in only one state
 pub begins_once : (p : Program) (falling : Option Shape) (frame : Option Frame) (s : Shape) → Begins p falling frame s → s ≡ begun p falling frame
 begins_once p falling (Some f) s begins = begins.0
 begins_once p None None s begins = absurd (cc)
@@ -35,11 +35,11 @@ begins_once p (Some t) None s begins =
     let one : t ≡ s = cc in
     sym one
 
--- in the state that the pass knows
+-- an instruction begins in the state that the pass computes
 pub begins_here : (p : Program) (pc : ℕ) (s : Shape) → Begins p (falling_into p (shape_at p) pc) (frame_at p.frames pc) s → s ≡ shape_at p pc
 begins_here p pc s begins = begins_once p (falling_into p (shape_at p) pc) (frame_at p.frames pc) s begins ∙ sym (shape_begun p pc)
 
--- as many slots, bound or not
+-- marking slots does not change their number
 pub length-marked : (bound : List Bool) (slots : List ℕ) → length (marked bound slots) ≡ length bound
 length-marked bound [] = refl
 length-marked bound (v ∷ vs) = length-marked (set bound v true) vs ∙ length-set bound v true
@@ -47,7 +47,7 @@ length-marked bound (v ∷ vs) = length-marked (set bound v true) vs ∙ length-
 pub slots_of_frame : (p : Program) (f : Frame) → length (shape_of p f).bound ≡ p.slots
 slots_of_frame p f = length-marked (replicate p.slots false) f.slots ∙ length-replicate p.slots false
 
--- beginning and leaving keep them
+-- beginning and leaving do not change the number of slots
 pub slots_begun : (p : Program) (s t : Shape) (falls : Bool) (frame : Option Frame) → length s.bound ≡ p.slots → Begins p (fallen falls s) frame t → length t.bound ≡ p.slots
 slots_begun p s t falls (Some f) long begins = rw begins.0 (slots_of_frame p f)
 slots_begun p s t true None long begins =
@@ -59,13 +59,13 @@ pub slots_left : (p : Program) (i : Instr) (s : Shape) → length s.bound ≡ p.
 slots_left p (instr.Bind v) s long = length-set s.bound v true ∙ long
 slots_left p i s long = long
 
--- what falls on after one more instruction
+-- what falls into the next instruction
 pub falls_on : (p : Program) (pc : ℕ) (i : Instr) (s : Shape) → slice_get p.instructions pc ≡ Some i → s ≡ shape_at p pc → falling_into p (shape_at p) (suc pc) ≡ fallen (goes_on i) (left_shape p i s)
 falls_on p pc i s here is =
     ap (λ o. option_and_then (λ j. falling_shape p j (shape_at p pc)) o) here
     ∙ ap (λ t. falling_shape p i t) (sym is)
 
--- one more instruction that is typed
+-- one more instruction is typed
 pub typed_more : (p : Program) (ds : List ℕ) (pc : ℕ) (i : Instr) (s : Shape) → AreTypedBelow p ds (shape_at p) pc → slice_get p.instructions pc ≡ Some i → s ≡ shape_at p pc → Begins p (falling_into p (shape_at p) pc) (frame_at p.frames pc) s → IsTypedAt p pc i s → inner_depth p ds i s ≤ most_places → AreTypedBelow p ds (shape_at p) (suc pc)
 typed_more p ds pc i s before here is begins typed inner q j below there = elim (cases_lt q pc) [
   | inl h ↦ before q j h there
@@ -76,11 +76,11 @@ typed_more p ds pc i s before here is begins typed inner q j below there = elim 
       rw same (rw (← one) (record { begins = rw (← is) begins; typed = rw (← is) typed; inner = rw (← is) inner }))
 ]
 
--- the depth of a frame that an instruction begins with
+-- the depth of the frame with which an instruction begins
 pub depth_of_frame : (p : Program) (falling : Option Shape) (f : Frame) (s : Shape) → Begins p falling (Some f) s → length s.kinds ≡ f.depth
 depth_of_frame p falling f s begins = ap (λ t. length t.kinds) begins.0 ∙ length-frame_kinds f.places f.depth
 
--- a list with one more at its end
+-- the earlier elements of a list with one more at its end
 pub slice_get-front : {X : Type 0} (xs : List X) (y : X) (q : ℕ) → q < length xs → slice_get (xs ++ y ∷ []) q ≡ slice_get xs q
 slice_get-front [] y q inside = absurd (omega arith)
 slice_get-front (x ∷ xs) y zero inside = refl
@@ -105,7 +105,7 @@ depths_more p pc depths before table here = record {
   ];
 }
 
--- which of three numbers is the greatest
+-- one of three numbers is the greatest
 greatest_of : (a b c : ℕ) → (max (max a b) c ≡ a) ⊎ ((max (max a b) c ≡ b) ⊎ (max (max a b) c ≡ c))
 greatest_of a b c = elim (cases_lt (max a b) c) [
   | inl h ↦ inr (inr (omega (arith, h)))
@@ -134,7 +134,7 @@ greatest_more p At pc n more i most here up one low = record {
   ];
 }
 
--- that of depths before and after
+-- the greatest of the depths before and after instructions, with one more instruction
 pub own_more : (p : Program) (shapes : ℕ → Shape) (pc n before after : ℕ) (i : Instr) → IsGreatestBelow p (IsOwnDepthAt p shapes) pc n → slice_get p.instructions pc ≡ Some i → before ≡ length (shapes pc).kinds → after ≡ length (left_shape p i (shapes pc)).kinds → IsGreatestBelow p (IsOwnDepthAt p shapes) (suc pc) (max (max n before) after)
 own_more p shapes pc n before after i most here is was =
     greatest_more p (IsOwnDepthAt p shapes) pc n (max (max n before) after) i most here (omega arith)
@@ -144,7 +144,7 @@ own_more p shapes pc n before after i most here is was =
     ])
     (λ m found. elim found [ inl h ↦ omega (arith, h, is) | inr h ↦ omega (arith, h, was) ])
 
--- that of what routines take
+-- the greatest of the depths that routines take, with one more instruction
 inner_more : (p : Program) (ds : List ℕ) (pc n takes : ℕ) (i : Instr) → IsGreatestBelow p (IsInnerAt p ds) pc n → slice_get p.instructions pc ≡ Some i → takes ≡ inner_depth p ds i (shape_at p pc) → IsGreatestBelow p (IsInnerAt p ds) (suc pc) (max n takes)
 inner_more p ds pc n takes i most here is =
     greatest_more p (IsInnerAt p ds) pc n (max n takes) i most here (omega arith)
@@ -154,7 +154,7 @@ inner_more p ds pc n takes i most here is =
     ])
     (λ m found. omega (arith, found, is))
 
--- before the first instruction
+-- what the pass knows before the first instruction
 pub walked_none : (p : Program) (ds : List ℕ) (s : Shape) → s ≡ entry_shape p → IsWalked p ds 0 true s [] 0 0
 walked_none p ds s is = record {
   typed = λ q i below here. absurd (omega (arith, below));
@@ -182,7 +182,7 @@ walked_more p ds pc falls s t u depths more own inner before after takes most de
     } in
     rw (goes, left, pushed, top, deep) (simp unary_clauses walked')
 
--- the instruction can't begin
+-- the fault of an instruction that cannot begin
 pub unbegun : (p : Program) (ds : List ℕ) (pc : ℕ) (falls : Bool) (s : Shape) (depths : List ℕ) (own inner : ℕ) (told : Fault) → All (IsFrameFit p) p.frames → pc < length p.instructions → IsWalked p ds pc falls s depths own inner → (told ≡ fault.Memory) ⊎ ((told ≡ fault.Frame pc) × HasNoBeginning p (fallen falls s) (frame_at p.frames pc)) → (told ≡ fault.Memory) ⊎ IsFirstUntyped p ds told
 unbegun p ds pc falls s depths own inner told frames inside walked why = elim why [
   | inl h ↦ inl h
@@ -197,7 +197,7 @@ unbegun p ds pc falls s depths own inner told frames inside walked why = elim wh
   })
 ]
 
--- the instruction isn't typed
+-- the fault of an instruction that is not typed
 pub untyped : (p : Program) (ds : List ℕ) (pc : ℕ) (falls : Bool) (s t : Shape) (depths : List ℕ) (own inner : ℕ) (i : Instr) (told : Fault) → All (IsFrameFit p) p.frames → IsWalked p ds pc falls s depths own inner → slice_get p.instructions pc ≡ Some i → Begins p (fallen falls s) (frame_at p.frames pc) t → IsFaultIn p ds pc i t told → IsFirstUntyped p ds told
 untyped p ds pc falls s t depths own inner i told frames walked here begins why =
     let begins' = rw (← walked.falling) at begins in

@@ -1,4 +1,4 @@
--- Code without routines is typed where its main body is: its budget is no more than it has instructions.
+-- Code without routines is typed if its main body is: its budget is at most the number of its instructions.
 use Rattle.std.specs.Prelude.{ℕ, zero, suc, ◌≡◌, ◌+◌, ◌<◌, ◌≤◌, IsSome, false, reverse, Option, Some, None, List, [], ◌∷◌, length, replicate, set, slice_get, slice_index}
 use Rattle.std.proofs.Common.{arith, refl, sym, ap, subst, inl, inr, get_or}
 use Rattle.std.proofs.lemmas.List.{length-replicate, get_or_past}
@@ -21,14 +21,14 @@ use Rattle.verifier.proofs.PassLemmas.{own_more}
 use Rattle.verifier.proofs.VerifiedLemmas.{own_all}
 use Rattle.verifier.proofs.BodyLemmas.{typed_forward}
 
--- no routine is there
+-- there is no routine
 none_there : (p : Program) (r : ℕ) → p.around ≡ alone → IsSome (routine_at p r) → ⊥
 none_there p zero plain some = absurd (cc)
 none_there p (suc r) plain some =
     let none : slice_get p.around.routines r ≡ None = ap (λ a. slice_get a.routines r) plain in
     absurd (cc)
 
--- so no instruction takes places for one, nor counts more than itself
+-- without routines no instruction takes places for one, nor counts more than itself
 plain_inner : (p : Program) (ds : List ℕ) (i : Instr) (s : Shape) → p.around ≡ alone → IsPlaced p i → inner_depth p ds i s ≡ 0
 plain_inner p ds (instr.Invoke r l) s plain placed = absurd (none_there p r plain placed.1)
 plain_inner p ds i s plain placed = refl
@@ -101,7 +101,7 @@ plain_depth p ds shapes plain n own = record {
   ];
 }
 
--- there is the main body alone
+-- there is only the main body
 one_body : (p : Program) (b : ℕ) → p.around ≡ alone → b ≤ length p.around.routines → b ≡ 0
 one_body p b plain inside = omega (arith, inside, ap (λ a. length a.routines) plain)
 
@@ -142,7 +142,7 @@ plain_typed p shapes plain =
     by zero n low = low
     by (suc b) n low = omega (arith, get_or_past {X = ℕ} (n ∷ []) (suc b) 0 (omega arith))
 
--- ---- what code without routines has of its main body
+-- ---- what code without routines gets from its main body
 
 -- the main body begins with nothing on the stack
 pub entry_main : (p : Program) → p.around.number ≡ 0 → entry_shape p ≡ start_shape p
@@ -153,7 +153,7 @@ entry_main p main =
 pub main_shapes : (p : Program) → (typed : IsTyped p) → (shapes : ℕ → Shape) × HasShapes p typed.depths shapes
 main_shapes p typed = typed.bodies 0 (omega arith)
 
--- its own depth is that of the code
+-- the own depth of the main body is the depth of the code
 pub depth_own : (p : Program) (n : ℕ) → p.around ≡ alone → IsDepth p n → IsOwnDepth p n
 depth_own p n plain (ds, are, is) =
     let body = are.each 0 (omega arith) (omega arith) in

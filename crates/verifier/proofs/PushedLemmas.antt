@@ -5,7 +5,7 @@ use Rattle.std.proofs.lemmas.List.{take_more, take_all, length-take, length-reve
 use Rattle.mcode.specs.declared.kind.Kind.{Kind}
 use Rattle.verifier_types.specs.Shape.{Shape}
 
--- the state with so many of these kinds pushed
+-- the state with the first n of these kinds pushed
 abbrev pub pushed : List Kind → List Bool → ℕ → Shape
 pushed ks bound n = record { kinds = reverse (take n ks); bound = bound }
 
@@ -14,7 +14,7 @@ pushed_more ks bound n d s t inside is more =
     more ∙ ap (λ u. record { kinds = get_or ks n d ∷ u.kinds; bound = u.bound }) is
     ∙ ap (λ js. record { kinds = js; bound = bound }) (sym (ap reverse (take_more ks n d inside) ∙ reverse-append (take n ks) (get_or ks n d ∷ [])))
 
--- there is room for one more
+-- there is room for one more kind
 pub pushed_room : (ks : List Kind) (bound : List Bool) (n : ℕ) (s : Shape) → n < length ks → length ks ≤ 255 → s ≡ pushed ks bound n → length s.kinds + 1 < 65536
 pushed_room ks bound n s inside few is =
     omega (arith, inside, few, ap (λ u. length u.kinds) is, length-reverse (take n ks), length-take n ks)

@@ -1,4 +1,4 @@
--- What the pass over all instructions says of a body, and what the pass over all bodies says of the code.
+-- What the pass over all instructions says about a body, and what the pass over all bodies says about the code.
 use Rattle.std.specs.Prelude.{ℕ, zero, suc, ◌≡◌, ◌≢◌, ◌+◌, ◌<◌, ◌≤◌, ◌++◌, ◌⊎◌, max, Bool, Option, Some, None, List, [], ◌∷◌, length, set, take, replicate, slice_get, slice_index, All}
 use Rattle.std.specs.Option.{MatchOption}
 use Rattle.std.proofs.Common.{arith, refl, sym, ap, subst, ◌∙◌, inl, inr, get_or}
@@ -24,7 +24,7 @@ use Rattle.verifier_types.proofs.FrameLemmas.{frame_found}
 use Rattle.verifier.proofs.PassLemmas.{slice_get-front, slice_get-last}
 use Rattle.verifier.proofs.BodyLemmas.{shapes_move, body_depth_moves, typed_forward}
 
--- all so far, and one more
+-- a property of all elements so far, and of one more
 pub all_take_more : {X : Type 0} (P : X → Type 0) (xs : List X) (i : ℕ) (x : X) → i < length xs → x ≡ get_or xs i x → All P (take i xs) → P x → All P (take (i + 1) xs)
 all_take_more P xs i x inside is before one =
     rw (take_more xs i x inside) (rw (← is) (All-append P (take i xs) (x ∷ []) before (all_one P x one)))
@@ -33,11 +33,11 @@ all_take_more P xs i x inside is before one =
     all_one P x one zero d within = one
     all_one P x one (suc k) d within = absurd (omega (arith, within))
 
--- all of so many that it is all
+-- a property of the first n elements, if these are all
 pub all_take_whole : {X : Type 0} (P : X → Type 0) (xs : List X) (n : ℕ) → length xs ≤ n → All P (take n xs) → All P xs
 all_take_whole P xs n long each = subst (λ ys. All P ys) (take_all n xs long) each
 
--- the first frame that isn't fit
+-- the first frame that is not fit
 pub first_unfit : (p : Program) (fs : List Frame) (i : ℕ) (f : Frame) → fs ≡ p.frames → i < length fs → f ≡ get_or fs i f → All (IsFrameFit p) (take i fs) → ¬ IsFrameFit p f → IsFirstUnfit p (fault.Frame f.pc)
 first_unfit p fs i f same inside is before unfit = record {
   place = i;
@@ -50,11 +50,11 @@ first_unfit p fs i f same inside is before unfit = record {
 
 -- ---- one body
 
--- the states that the pass knows are those of all instructions
+-- the states that the pass computes are those of all instructions
 pub walked_shapes : (p : Program) (ds : List ℕ) (falls : Bool) (shape : Shape) (depths : List ℕ) (own inner : ℕ) → All (IsFrameFit p) p.frames → 0 < length p.instructions → IsWalked p ds (length p.instructions) falls shape depths own inner → HasShapes p ds (shape_at p)
 walked_shapes p ds falls shape depths own inner frames some walked = record { frames = frames; some = some; each = walked.typed }
 
--- the greatest of all, where something is found at the first instruction
+-- the greatest of all, if something is found at the first instruction
 greatest_all : (p : Program) (At : ℕ → Instr → ℕ → Type 0) (n : ℕ) → 0 < length p.instructions → ((i : Instr) → (m : ℕ) × At 0 i m) → IsGreatestBelow p At (length p.instructions) n → IsGreatest p At n
 greatest_all p At n some first most = record {
   reached = attained n most;
@@ -74,7 +74,7 @@ greatest_all p At n some first most = record {
 pub own_all : (p : Program) (shapes : ℕ → Shape) (n : ℕ) → 0 < length p.instructions → IsGreatestBelow p (IsOwnDepthAt p shapes) (length p.instructions) n → IsGreatest p (IsOwnDepthAt p shapes) n
 own_all p shapes n some most = greatest_all p (IsOwnDepthAt p shapes) n some (λ i. (length (shapes 0).kinds, inl refl)) most
 
--- with what the routines take
+-- the greatest depth, including what routines take
 depth_all : (p : Program) (ds : List ℕ) (own inner : ℕ) → IsGreatest p (IsOwnDepthAt p (shape_at p)) own → IsGreatestBelow p (IsInnerAt p ds) (length p.instructions) inner → IsGreatest p (IsDepthAt p ds (shape_at p)) (max own inner)
 depth_all p ds own inner most deep = record {
   reached = elim (cases_lt own inner) [
@@ -93,7 +93,7 @@ depth_all p ds own inner most deep = record {
   ];
 }
 
--- what is found out of a body
+-- the findings about a body
 pub found_all : (p : Program) (ds bs : List ℕ) (falls : Bool) (shape : Shape) (depths : List ℕ) (own inner deepest budget : ℕ) (table : Table) → IsProgram p → All (IsFrameFit p) p.frames → 0 < length p.instructions → IsWalked p ds (length p.instructions) falls shape depths own inner → deepest ≡ max own inner → table ≡ record { depths = depths; own = own } → IsBodyBudget p bs budget → budget ≤ most_budget → IsFound p ds bs table deepest budget
 found_all p ds bs falls shape depths own inner deepest budget table program frames some walked deep is limit few =
     let typing = walked_shapes p ds falls shape depths own inner frames some walked in
@@ -117,7 +117,7 @@ over_limit p ds bs shapes (Some n) typing told none = absurd (none n refl)
 
 -- ---- all bodies
 
--- before the last body
+-- what is known before the last body
 pub known_none : (p : Program) (ds bs : List ℕ) (from : ℕ) → length p.around.routines < from → length ds ≡ suc (length p.around.routines) → length bs ≡ suc (length p.around.routines) → ((b : ℕ) → slice_index bs b ≤ most_budget) → IsKnown p from ds bs
 known_none p ds bs from past long count few = record {
   typed = record {
@@ -144,7 +144,7 @@ started p count ds bs tables long start =
     (λ b. omega (arith, ap (λ ns. slice_index ns b) start.limits, zeros_few count b))
 
 module _ (p : Program) (b : ℕ) (ds bs : List ℕ) (table : Table) (d n : ℕ) (inside : b ≤ length p.around.routines) (known : IsKnown p (b + 1) ds bs) (found : IsFound (body_of p b) ds bs table d n) where
-  -- a change of a body's depth is not seen by those behind it, nor by the body
+  -- changing a body's depth changes nothing for bodies with higher numbers, nor for the body itself
   unseen : (c : ℕ) → b ≤ c → AgreeBehind (body_of p c).around.number ds (set ds b d)
   unseen c low e behind =
       let other : e ≢ b = omega (arith, behind, low, least_number_of_body p c) in
@@ -186,7 +186,7 @@ module _ (p : Program) (b : ℕ) (ds bs : List ℕ) (table : Table) (d n : ℕ) 
     ];
   }
 
-  -- one body more
+  -- what is known with one more body
   pub known_more : IsKnown p b (set ds b d) (set bs b n)
   known_more =
       let few = few_more bs b n (omega (arith, inside, known.typed.limits.count)) known.few found.few in
@@ -200,13 +200,13 @@ module _ (p : Program) (b : ℕ) (ds bs : List ℕ) (table : Table) (d n : ℕ) 
         few = few;
       }
 
--- a fault, where the bodies behind are typed
+-- a fault, if the bodies with higher numbers are typed
 pub first_here : (p : Program) (b : ℕ) (ds bs : List ℕ) (told : Fault) → b ≤ length p.around.routines → IsKnown p (b + 1) ds bs → IsBodyFault (body_of p b) ds told ⊎ IsBodyOver (body_of p b) ds bs told → IsFirstFault p b told
 first_here p b ds bs told inside known why =
     let next : b + 1 ≡ suc b = omega arith in
     record { depths = ds; budgets = bs; inside = inside; behind = subst (λ m. AreTypedFrom p m ds bs) next known.typed; why = why }
 
--- code of which all bodies are known is typed
+-- code is typed if all its bodies are known
 pub known_typed : (p : Program) (ds bs : List ℕ) → IsKnown p 0 ds bs → IsTyped p
 known_typed p ds bs known = record {
   depths = ds;
@@ -236,7 +236,7 @@ tables_more p b tables table inside are here = record {
   ];
 }
 
--- that of a routine
+-- the table of a routine
 pub table_at : (p : Program) (tables : List Table) (b n : ℕ) (t : Table) → AreTables p 1 tables → 0 < b → b + n ≡ length p.around.routines → t ≡ get_or tables n t → IsTable (body_of p b) t
 table_at p tables b n t are some sum is =
     let there = are.each b n (omega (arith, some)) sum in

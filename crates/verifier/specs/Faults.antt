@@ -1,4 +1,4 @@
--- What a fault of code says, and that nothing stands before it.
+-- What a fault of code says, and that it is the first.
 use Rattle.std.specs.Prelude.{ℕ, suc, ◌≡◌, ◌<◌, ◌≤◌, ◌⊎◌, Option, Some, List, length, slice_get, All, take}
 use Rattle.budget.specs.Paths.{IsBodyBudget, most_budget}
 use Rattle.mcode.specs.Program.{Program, Frame, frame_at, body_of}
@@ -10,12 +10,12 @@ use Rattle.verifier_types.specs.declared.fault.Fault.{Fault}
 use Rattle.verifier_types.specs.declared.fault.Fault.TheVariants as fault
 use Rattle.verifier.specs.Typing.{Begins, falling_into, AreTypedBelow, HasShapes, AreTypedFrom}
 
--- no state is one in which the instruction can begin: neither does one fall into it nor has it a frame, or
--- the one that falls into it isn't at or below its frame
+-- There is no state in which the instruction can begin: none falls into it and it has no frame, or the state that falls
+-- into it is not at or below its frame.
 abbrev pub HasNoBeginning : Program → Option Shape → Option Frame → Type 0
 HasNoBeginning p falling frame = (s : Shape) → ¬ Begins p falling frame s
 
--- the instruction is the first that isn't typed, where these are the depths of all bodies, and the fault says why
+-- the instruction is the first that is not typed, given the depths of all bodies, and the fault says why
 pub record IsFirstUntyped (p : Program) (ds : List ℕ) (told : Fault) : Type 0 where
   pub pc : ℕ
   pub instr : Instr
@@ -28,7 +28,7 @@ pub record IsFirstUntyped (p : Program) (ds : List ℕ) (told : Fault) : Type 0 
       ⊎ (Begins p (falling_into p shapes pc) (frame_at p.frames pc) (shapes pc)
       × IsFaultIn p ds pc instr (shapes pc) told)
 
--- the frame is the first that isn't fit
+-- the frame is the first that is not fit
 pub record IsFirstUnfit (p : Program) (told : Fault) : Type 0 where
   pub place : ℕ
   pub frame : Frame
@@ -43,11 +43,11 @@ pub record IsEmpty (p : Program) (told : Fault) : Type 0 where
   pub none : length p.instructions ≡ 0
   pub is : told ≡ fault.FallsOff 0
 
--- why a body is not typed: the first of a frame that isn't fit, no instruction, an instruction that isn't typed
+-- why a body is not typed, in this order: a frame is not fit, there is no instruction, or an instruction is not typed
 abbrev pub IsBodyFault : Program → List ℕ → Fault → Type 0
 IsBodyFault p ds told = IsFirstUnfit p told ⊎ (IsEmpty p told ⊎ IsFirstUntyped p ds told)
 
--- the body is typed, and its budget is above the limit
+-- the body is typed, but its budget is above the limit
 pub record IsBodyOver (p : Program) (ds budgets : List ℕ) (told : Fault) : Type 0 where
   pub shapes : ℕ → Shape
   pub typing : HasShapes p ds shapes
@@ -56,7 +56,8 @@ pub record IsBodyOver (p : Program) (ds budgets : List ℕ) (told : Fault) : Typ
   pub over : most_budget < budget
   pub is : told ≡ fault.Budget
 
--- Why code is no typed code: the bodies behind this one are typed, and it isn't, or its budget is above the limit.
+-- Why code is not typed: the bodies with higher numbers are typed, but this one is not, or its budget is above the
+-- limit.
 pub record IsFirstFault (p : Program) (b : ℕ) (told : Fault) : Type 0 where
   pub depths : List ℕ
   pub budgets : List ℕ

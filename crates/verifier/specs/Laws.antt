@@ -6,11 +6,11 @@ use Rattle.verifier.specs.Typing.{IsTyped, IsDepth, IsPlain}
 use Rattle.verifier_types.specs.Shape.{Shape}
 use Rattle.verifier_types.specs.declared.fault.Fault.{Fault}
 
--- code of which a fault tells is not typed
+-- code with a fault is not typed
 abbrev pub FaultyCodeIsUntyped : Type 0
 FaultyCodeIsUntyped = (p : Program) (b : ℕ) (told : Fault) → IsFirstFault p b told → ¬ IsTyped p
 
--- at most one fault is the first
+-- code has at most one first fault
 abbrev pub FirstFaultIsOne : Type 0
 FirstFaultIsOne =
     (p : Program) (b c : ℕ) (told again : Fault) → IsFirstFault p b told → IsFirstFault p c again
@@ -20,6 +20,6 @@ FirstFaultIsOne =
 abbrev pub DepthIsOne : Type 0
 DepthIsOne = (p : Program) (n m : ℕ) → IsDepth p n → IsDepth p m → n ≡ m
 
--- code without routines is typed where its body is
+-- code without routines is typed if its body is
 abbrev pub PlainCodeIsTyped : Type 0
 PlainCodeIsTyped = (p : Program) (shapes : ℕ → Shape) → IsPlain p shapes → IsTyped p

@@ -1,15 +1,15 @@
-//! Why code is refused, and where.
+//! Why code is rejected, and in which body.
 use std::alloc::AllocError;
 use thiserror::Error;
 use verifier_types::Fault;
 
-/// Why code is refused, and the body in which that was found.
+/// Why code is rejected, and the body in which the fault was found.
 #[derive(Clone, Copy, Debug, PartialEq, Eq, Error)]
 #[error("body {body}: {fault}")]
 pub struct BodyFault {
-    /// Why it is refused.
+    /// The fault.
     pub fault: Fault,
-    /// The number of the body, 0 of the main one and for want of memory at no body.
+    /// The number of the body: 0 for the main body, and also if memory ran out outside any body.
     pub body: u16,
 }
 

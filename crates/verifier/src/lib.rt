@@ -1,15 +1,15 @@
 //! The verifier of code.
 //!
-//! The one contract: `verify` accepts code exactly where `IsTyped` of `specs/Typing.antt` holds, that in each body there
-//! is a state for each instruction such that each finds what it needs and leaves what the next begins with, and that no
-//! body's budget is above the limit; else it hands the code back with the first fault and its body (`IsFirstFault` of
-//! `specs/Faults.antt`). A `Verified` keeps the typing, the exact budget and the greatest depth, and only `verify` makes
-//! one.
+//! The contract: `verify` accepts code exactly if `IsTyped` of `specs/Typing.antt` holds. That means that each body has
+//! a state for each instruction, such that each instruction finds what it needs and leaves what the next one begins
+//! with. It also means that no body's budget is above the limit. Otherwise `verify` hands the code back with the first
+//! fault and its body (`IsFirstFault` of `specs/Faults.antt`). A `Verified` guarantees the typing, the exact budget and
+//! the greatest depth, and only `verify` makes one.
 //!
-//! - `verification`: the bodies, from the last; of each the frames, then each instruction in turn, then the budget;
+//! - `verification`: the bodies, from the last one; in each the frames, then each instruction in turn, then the budget;
 //!   `pass`: what is known before an instruction, and after one more. What is known of a state, the checks of one
-//!   instruction and what it leaves stand in `verifier_types`.
-//! - `verified`: what `verify` answers; `fault`: why it refuses; `laws`: that no code is both typed and at fault.
+//!   instruction and what it leaves are in `verifier_types`.
+//! - `verified`: what `verify` returns; `fault`: why it fails; `laws`: no code is both typed and at fault.
 #![tactic(auto)]
 
 mod fault;

@@ -1,4 +1,4 @@
-//! The pass from the first instruction to the last, which knows the one state in which each can begin.
+//! The pass from the first instruction to the last, which computes the one state in which each can begin.
 ghost use Rattle.std.specs.Prelude.{◌≡◌, ◌<◌, ◌+◌, ◌⊎◌, ◌↔◌, ◌++◌, ◌≤◌, ◌∷◌, [], IsTrue, IfSome, IfOk, IfErr, OnOk, All, Some, length, max, reverse, slice_get};
 ghost use Rattle.mcode.specs.Frame.{frame_of};
 ghost use Rattle.mcode.specs.Program.{frame_at, most_arguments};
@@ -20,17 +20,17 @@ use verifier_types::{Fault, Shape, check, inner_depth, leave};
 pub(crate) struct Walk<A: Allocator> {
     /// The state that the instruction before this one left.
     shape: Shape<A>,
-    /// Whether it falls into this one.
+    /// Whether that state falls into this instruction.
     falls: bool,
     /// The depths of the states so far, by the number of the instruction.
     pub(crate) depths: Vec<u16, A>,
     /// The greatest depth of a state so far.
     pub(crate) own: u16,
-    /// The most places so far that an instruction takes while its routine runs.
+    /// The largest number of places so far that are in use while an invoked routine runs.
     pub(crate) inner: u16,
 }
 
-/// Whether the state that falls into an instruction with a frame, where one does, is at or below it.
+/// Returns whether the state that falls into an instruction with a frame, if one does, is at or below the frame.
 fn falls_below<A: Allocator>(falls: bool, shape: &Shape<A>, frame: &Frame<A>) -> bool
     requires { AreKept frame.now.depth frame.now.places }
     ensures { IsTrue result ↔ IfSome (fallen falls shape.now)
@@ -42,7 +42,8 @@ fn falls_below<A: Allocator>(falls: bool, shape: &Shape<A>, frame: &Frame<A>) ->
     shape.is_at_or_below(frame)
 }
 
-/// Turns the state that falls into an instruction, where one does, into the one in which it begins.
+/// Turns the state that falls into an instruction, if one does, into the state in which the instruction begins. Fails
+/// if there is no such state, or if an allocation fails.
 fn begin<A: Allocator>(
     body: &Body<'_, A>,
     pc: u16,
@@ -69,7 +70,7 @@ fn begin<A: Allocator>(
     }
 }
 
-/// Pushes these kinds, the lowest first, on an empty stack.
+/// Pushes these kinds, the lowest first, onto an empty stack.
 fn push_all<A: Allocator>(shape: &mut Shape<A>, kinds: &[Kind]) -> Result<(), AllocError>
     requires few { length kinds.now ≤ most_arguments }
     requires empty { shape.old.kinds ≡ [] }
@@ -82,7 +83,7 @@ fn push_all<A: Allocator>(shape: &mut Shape<A>, kinds: &[Kind]) -> Result<(), Al
     Ok(())
 }
 
-/// The state in which a body begins.
+/// Returns the state in which a body begins.
 fn entry<A: Allocator + Copy>(alloc: A, body: &Body<'_, A>) -> Result<Shape<A>, AllocError>
     ensures { IfOk result (λ s. s ≡ entry_shape body.now) }
 {
@@ -97,7 +98,7 @@ impl<A: Allocator + Copy> Walk<A> {
     ghost use Rattle.std.specs.Prelude.{IfOk, List, ℕ};
     ghost use Rattle.verifier.specs.Pass.{IsWalked};
 
-    /// Before the first instruction of a body.
+    /// Makes what the pass knows before the first instruction of a body.
     pub(crate) fn start(alloc: A, body: &Body<'_, A>) -> Result<Self, AllocError>
         ensures { IfOk result (λ w. (ds : List ℕ)
             → IsWalked body.now ds 0 w.falls w.shape w.depths.items w.own w.inner) }
@@ -114,14 +115,14 @@ impl<A: Allocator + Copy> Walk<A> {
     }
 }
 
-/// The greatest of three depths.
+/// Returns the greatest of three depths.
 fn greatest(depth: u16, before: u16, after: u16) -> u16
     ensures { result ≡ max (max depth before) after }
 {
     depth.max(before).max(after)
 }
 
-/// The greater of two depths.
+/// Returns the greater of two depths.
 fn deeper(depth: u16, inner: usize) -> u16
     requires { inner ≤ most_places }
     ensures { result ≡ max depth inner }
@@ -129,7 +130,7 @@ fn deeper(depth: u16, inner: usize) -> u16
     depth.max(inner as u16)
 }
 
-/// The instruction of a number.
+/// Returns the instruction at `pc`.
 fn instr_at<A: Allocator>(body: &Body<'_, A>, pc: u16) -> Instr
     requires { pc < length body.now.instructions }
     ensures { slice_get body.now.instructions pc ≡ Some result }
@@ -137,7 +138,7 @@ fn instr_at<A: Allocator>(body: &Body<'_, A>, pc: u16) -> Instr
     body.instructions()[usize::from(pc)]
 }
 
-/// Notes the depth of one more state.
+/// Appends the depth of one more state.
 fn note<A: Allocator>(depths: &mut Vec<u16, A>, depth: u16) -> Result<(), AllocError>
     ensures { OnOk result (depths.new.items ≡ depths.old.items ++ depth ∷ []) }
 {
@@ -145,7 +146,8 @@ fn note<A: Allocator>(depths: &mut Vec<u16, A>, depth: u16) -> Result<(), AllocE
     Ok(())
 }
 
-/// What the pass knows after one more instruction, where these are the depths of all bodies behind this one.
+/// Updates what the pass knows by one more instruction, given the depths of all bodies with higher numbers (`behind`).
+/// Fails with the instruction's fault, or if an allocation fails.
 pub(crate) fn step<A: Allocator>(
     body: &Body<'_, A>,
     counts: &[Option<usize>],

@@ -1,4 +1,4 @@
-//! The verifier.
+//! Verifying code.
 ghost use Rattle.std.specs.Prelude.{ℕ, suc, ◌≡◌, ◌<◌, ◌≤◌, ◌+◌, ◌⊎◌, ◌++◌, ◌∷◌, [], ◌↔◌, IsTrue, IfOk, IfErr, OnOk, OnErr, All, List, length, map, max};
 ghost use Rattle.mcode.specs.Frame.{frame_of};
 ghost use Rattle.mcode.specs.Program.{place_number, body_of};
@@ -20,21 +20,21 @@ use std::alloc::{AllocError, Allocator};
 use term_core::Refused;
 use verifier_types::{Fault, MAX_DEPTH, key_counts};
 
-/// Whether all of these places are within a depth.
+/// Returns whether all of these places are within a depth.
 fn are_within(places: &[(u16, mcode::Kind)], depth: u16) -> bool
     ensures { IsTrue result ↔ All (λ place. place_number place < depth) places.now }
 {
     places.iter().all(|place| place.0 < depth)
 }
 
-/// Whether all of these slots are among so many.
+/// Returns whether all of these slots are below `count`.
 fn are_slots(slots: &[u8], count: u16) -> bool
     ensures { IsTrue result ↔ All (λ slot. slot < count) slots.now }
 {
     slots.iter().all(|slot| u16::from(*slot) < count)
 }
 
-/// Whether a frame is at an instruction other than the first, and within the limits.
+/// Returns whether a frame is at an instruction other than the first, and within the limits.
 fn is_frame_fit<A: Allocator>(body: &Body<'_, A>, frame: &Frame<A>) -> bool
     ensures { IsTrue result ↔ IsFrameFit body.now (frame_of frame.now) }
 {
@@ -45,7 +45,7 @@ fn is_frame_fit<A: Allocator>(body: &Body<'_, A>, frame: &Frame<A>) -> bool
         && are_slots(frame.slots.as_slice(), body.slots())
 }
 
-/// Refuses the first frame that isn't fit.
+/// Checks the frames. Fails with the first that isn't fit.
 fn check_frames<A: Allocator>(body: &Body<'_, A>, frames: &[Frame<A>]) -> Result<(), Fault>
     requires { map frame_of frames.now ≡ body.now.frames }
     ensures fit { OnOk result (All (IsFrameFit body.now) body.now.frames) }
@@ -59,7 +59,8 @@ fn check_frames<A: Allocator>(body: &Body<'_, A>, frames: &[Frame<A>]) -> Result
     Ok(())
 }
 
-/// Types each instruction in turn, where these are the depths of the bodies behind this one.
+/// Types each instruction in turn, given the depths of the bodies with higher numbers (`behind`). Fails with the first
+/// fault, or if an allocation fails.
 fn walk_through<A: Allocator + Copy>(
     alloc: A,
     body: &Body<'_, A>,
@@ -78,7 +79,7 @@ fn walk_through<A: Allocator + Copy>(
     Ok(walk)
 }
 
-/// What is found out of a body.
+/// The findings about one body.
 #[derive(Drop)]
 struct Found<A: Allocator> {
     table: Table<A>,
@@ -86,7 +87,8 @@ struct Found<A: Allocator> {
     budget: u32,
 }
 
-/// What is to be known of a body that is typed, by the depths and the budgets of those behind it.
+/// Checks a body and returns the findings about it, given the depths and the budgets of bodies with higher numbers.
+/// Fails with its first fault, or if an allocation fails.
 fn find_out<A: Allocator + Copy>(
     alloc: A,
     body: &Body<'_, A>,
@@ -112,18 +114,18 @@ fn find_out<A: Allocator + Copy>(
     })
 }
 
-/// What is known of the bodies so far, which are looked at from the last.
+/// The findings about the bodies so far, which are checked from the last one.
 #[derive(Drop)]
 struct Known<A: Allocator> {
-    /// By the number of a body, the greatest depth with the routines that it invokes.
+    /// For each body, by its number, the greatest depth including the routines that it invokes.
     depths: Vec<u16, A>,
-    /// By the number of a body.
+    /// For each body, by its number, its budget.
     budgets: Vec<u32, A>,
-    /// Of the routines, the last first.
+    /// For each routine, the last first, its table.
     tables: Vec<Table<A>, A>,
 }
 
-/// Before the last body, of so many.
+/// Makes the findings before the last of `count` bodies is checked.
 fn start<A: Allocator + Copy>(alloc: A, count: usize) -> Result<Known<A>, AllocError>
     ensures { IfOk result (λ k. IsStart count k.depths.items k.budgets.items k.tables.items) }
 {
@@ -134,7 +136,7 @@ fn start<A: Allocator + Copy>(alloc: A, count: usize) -> Result<Known<A>, AllocE
     })
 }
 
-/// Notes the table of one more body.
+/// Appends the table of one more body.
 fn note_table<A: Allocator>(
     tables: &mut Vec<Table<A>, A>,
     table: Table<A>,
@@ -147,7 +149,8 @@ fn note_table<A: Allocator>(
     }
 }
 
-/// Looks at one more body, and gives what is kept of it.
+/// Checks one more body, adds the findings about it, and returns its table. Fails with its first fault, or if an
+/// allocation fails.
 fn learn<A: Allocator + Copy>(
     alloc: A,
     code: &Code<A>,
@@ -172,7 +175,7 @@ fn learn<A: Allocator + Copy>(
     Ok(found.table)
 }
 
-/// Looks at one more routine.
+/// Checks one more routine, and adds the findings about it with its table.
 fn learn_routine<A: Allocator + Copy>(
     alloc: A,
     code: &Code<A>,
@@ -191,7 +194,7 @@ fn learn_routine<A: Allocator + Copy>(
     Ok(())
 }
 
-/// Looks at all routines, the last first.
+/// Checks all routines, the last first. Fails with the first fault and its body, or if an allocation fails.
 fn learn_routines<A: Allocator + Copy>(alloc: A, code: &Code<A>) -> Result<Known<A>, BodyFault>
     ensures known { IfOk result (λ k. IsKnown code.now 1 k.depths.items k.budgets.items) }
     ensures tables { IfOk result (λ k. AreTables code.now 1 k.tables.items) }
@@ -210,7 +213,7 @@ fn learn_routines<A: Allocator + Copy>(alloc: A, code: &Code<A>) -> Result<Known
     Ok(known)
 }
 
-/// What `verify` finds out of code.
+/// The findings about code.
 #[derive(Drop)]
 struct Findings<A: Allocator> {
     main: Table<A>,
@@ -220,7 +223,8 @@ struct Findings<A: Allocator> {
     depth: u16,
 }
 
-/// What is to be known of code that is typed.
+/// Checks all bodies and returns the findings about the code. Fails with the first fault and its body, or if an
+/// allocation fails.
 fn find_all<A: Allocator + Copy>(alloc: A, code: &Code<A>) -> Result<Findings<A>, BodyFault>
     ensures typed { IfOk result (λ f. IsVerified code.now f.main f.tables.items f.budget f.depth) }
     ensures ops { IfOk result (λ f. AreOps code.now.instructions f.ops.items) }
@@ -241,10 +245,12 @@ fn find_all<A: Allocator + Copy>(alloc: A, code: &Code<A>) -> Result<Findings<A>
     })
 }
 
-/// Verifies code. It is accepted exactly where in each body there is a state for each instruction such that each finds
-/// what it needs and leaves what the next begins with, and no body's budget is above `budget::MAX_BUDGET`; else the
-/// first fault is answered, and the code comes back. Bodies are looked at from the last to the main one. In each, frames
-/// come first, by rising number, then that there is an instruction, then each instruction in turn, then the budget.
+/// Verifies code. Accepts it exactly if each body has a state for each instruction, such that each instruction finds
+/// what it needs and leaves what the next one begins with, and no body's budget is above `budget::MAX_BUDGET`.
+/// Otherwise fails with the first fault, or because an allocation failed, and hands the code back.
+///
+/// Bodies are checked from the last to the main one. In each body the order is: the frames, in ascending order of their
+/// instructions, then that there is an instruction, then each instruction in turn, then the budget.
 pub fn verify<A: Allocator + Copy>(
     alloc: A,
     code: Code<A>,

@@ -1,4 +1,4 @@
--- An instruction is not both typed and at fault in a state, and at most one fault tells of it.
+-- An instruction is not both typed and at fault in a state, and has at most one fault.
 use Rattle.std.specs.Prelude.{ℕ, zero, suc, ◌≡◌, ◌<◌, ◌≤◌, IsTrue, List, length}
 use Rattle.std.proofs.Common.{arith, refl, sym, ap, subst, ◌∙◌, inl, inr}
 use Rattle.std.proofs.lemmas.Bool.{cases_lt}
@@ -14,7 +14,7 @@ use Rattle.verifier_types.specs.Faults.{JumpsTo, IsNamingFit, AreOperandsFit, Ar
 use Rattle.verifier_types.specs.declared.fault.Fault.{Fault}
 use Rattle.verifier_types.specs.declared.fault.Fault.TheVariants as fault
 
--- no instruction is typed and at fault, where its routine isn't too deep
+-- no instruction is both typed and at fault if its routine is not too deep
 pub contradicts : (p : Program) (ds : List ℕ) (pc : ℕ) (i : Instr) (s : Shape) (told : Fault) → IsTypedAt p pc i s → inner_depth p ds i s ≤ most_places → IsFaultIn p ds pc i s told → ⊥
 contradicts p ds pc i s fault.Memory typed inner why = why
 contradicts p ds pc i s fault.Budget typed inner why = why
@@ -56,7 +56,7 @@ contradicts p ds pc i s (fault.Depth at) typed inner why = elim why.2 [
 ]
 contradicts p ds pc i s (fault.FallsOff at) typed inner why = absurd (omega (arith, typed.last why.2, why.3))
 
--- a target that isn't what it has to be, and what is told of it
+-- the target is wrong, with its fault
 data Misses (p : Program) (pc : ℕ) (i : Instr) : Fault → Type 0 where
   outside : {t : ℕ} → JumpsTo i t → length p.instructions ≤ t → Misses p pc i (fault.JumpOutside pc)
   back : {t : ℕ} → JumpsTo i t → t < length p.instructions → t ≤ pc → Misses p pc i (fault.JumpBack pc)
@@ -90,7 +90,7 @@ module _ (p : Program) (ds : List ℕ) (pc : ℕ) (i : Instr) (s : Shape) where
   Check (suc (suc (suc (suc (suc (suc (suc zero))))))) = IsJumpFit p i s
   Check (suc (suc (suc (suc (suc (suc (suc (suc n)))))))) = IsTrue (goes_on i) → suc pc < length p.instructions
 
-  -- what is told where a check fails
+  -- the fault of a check that fails
   abbrev Tells : ℕ → Fault → Type 0
   Tells zero told = Misses p pc i told
   Tells (suc zero) told = told ≡ fault.Routine pc
@@ -142,7 +142,7 @@ module _ (p : Program) (ds : List ℕ) (pc : ℕ) (i : Instr) (s : Shape) where
     ]
   ]
 
-  -- what passed before
+  -- the checks that passed before
   naming_passed : IsNamingFit p pc i → PassBelow 3
   naming_passed n = (n.constant, (n.placed, (n.target, tt)))
 
@@ -213,11 +213,11 @@ module _ (p : Program) (ds : List ℕ) (pc : ℕ) (i : Instr) (s : Shape) where
         tells = ap fault.FallsOff why.0;
       }
 
--- at most one fault tells of an instruction
+-- an instruction has at most one fault
 pub fault_once : (p : Program) (ds : List ℕ) (pc : ℕ) (i : Instr) (s : Shape) (told again : Fault) → IsFaultIn p ds pc i s told → IsFaultIn p ds pc i s again → told ≡ again
 fault_once p ds pc i s told again a b = fails_once p ds pc i s told again (fails_first p ds pc i s told a) (fails_first p ds pc i s again b)
 
--- by the depths of the bodies behind its own, a fault tells the same of an instruction
+-- an instruction has the same fault if the depths of the bodies with higher numbers agree
 module _ (p : Program) (ds es : List ℕ) (pc : ℕ) (i : Instr) (s : Shape) (same : IsPlaced p i → inner_depth p ds i s ≡ inner_depth p es i s) where
   depth_moves : IsDepthFit p ds pc i s → IsDepthFit p es pc i s
   depth_moves d =

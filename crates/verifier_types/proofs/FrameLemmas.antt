@@ -6,7 +6,7 @@ use Rattle.mcode.proofs.RiseLemmas.{number_stands}
 use Rattle.verifier_types.specs.Kept.{AreKept}
 use Rattle.verifier_types.specs.Fit.{IsFrameFit}
 
--- what is known of a frame that is found
+-- what is known of a frame that was found
 pub record IsFound (p : Program) (pc : ℕ) (f : Frame) : Type 0 where
   pub here : f.pc ≡ pc
   pub kept : AreKept f.depth f.places

@@ -14,18 +14,18 @@ use Rattle.verifier_types.specs.Needed.{keys_counted, tops_fit}
 abbrev apart_or_none : List Datum → Option (List Datum)
 apart_or_none keys = if are_apart keys then Some keys else None
 
--- of the elements of a list
+-- the number of keys of the elements of a proper list
 pub counted_proper : (d : Datum) (ds : List Datum) (b : Bool) → Some ds ≡ proper_elements d → b ≡ are_apart ds → cond b (Some (length ds)) None ≡ keys_counted d
 counted_proper d ds true proper is =
     ap (λ a. option_map length (cond a (Some ds) None)) is ∙ ap (λ o. option_map length (option_and_then apart_or_none o)) proper
 counted_proper d ds false proper is =
     ap (λ a. option_map length (cond a (Some ds) None)) is ∙ ap (λ o. option_map length (option_and_then apart_or_none o)) proper
 
--- where there are none
+-- a term that is not a proper list has no number of keys
 pub counted_improper : (d : Datum) → None ≡ proper_elements d → None ≡ keys_counted d
 counted_improper d improper = ap (λ o. option_map length (option_and_then apart_or_none o)) improper
 
--- by the two kinds at the top
+-- the kinds fit if the two kinds at the top do
 pub tops_fit-kinds : (i : Instr) (ks : List Kind) → tops_fit i (slice_get ks 0) (slice_get ks 1) ≡ kinds_fit i ks
 tops_fit-kinds (instr.Field n) (kind.Tuple m ∷ ks) = refl
 tops_fit-kinds instr.Head (kind.Cons ∷ ks) = refl

@@ -15,25 +15,25 @@ use Rattle.verifier_types.specs.Shape.{Shape}
 use Rattle.verifier_types.specs.Effect.{needs, slot_fits, pushed_kinds, left_bound, left_shape}
 use Rattle.verifier_types.specs.Leaving.{pushed_for, IsBindable}
 
--- a list with elements
+-- the kind of a list with elements is Cons
 pub kind-cells : (ds : List Datum) (tail : Datum) → 0 < length ds → kind.Cons ≡ kind_of (cells ds tail)
 kind-cells [] tail some = absurd (omega arith)
 kind-cells (d ∷ ds) tail some = refl
 
--- the slot that is bound is one of the code's
+-- the slot that an instruction binds is one of the code's
 pub bindable : (p : Program) (i : Instr) (bound : List Bool) (n : ℕ) → IsTrue (slot_fits p i bound) → n ≡ p.slots → IsBindable i n
 bindable p (instr.Bind v) bound n fits same =
     let below : v < p.slots = ltb-true v p.slots fits in
     omega (arith, below, same)
 bindable p i bound n fits same = tt
 
--- the kinds that are pushed depend on the top alone
+-- the kinds that are pushed depend only on the kind at the top
 pushed_for-top : (p : Program) (i : Instr) (ks : List Kind) → pushed_for p i (slice_get ks 0) ≡ pushed_kinds p i ks
 pushed_for-top p instr.Dup [] = refl
 pushed_for-top p instr.Dup (k ∷ ks) = refl
 pushed_for-top p i ks = refl
 
--- but for DUP they don't depend on it
+-- for any instruction but DUP they do not depend on the kind at the top
 pub pushed_alike : (p : Program) (i : Instr) (top other : Option Kind) → i ≢ instr.Dup → pushed_for p i top ≡ pushed_for p i other
 pushed_alike p instr.Dup top other no_dup = absurd (no_dup refl)
 pushed_alike p i top other no_dup = refl

@@ -5,14 +5,14 @@ use Rattle.std.proofs.lemmas.List.{drop_more, get_or-reverse, length-reverse, dr
 use Rattle.mcode.specs.declared.kind.Kind.{Kind}
 use Rattle.verifier_types.specs.Effect.{are_below, is_top_below}
 
--- one more kind
+-- comparing one more kind
 heads : (ks ls : List Kind) (n : ℕ) (l : Kind) → are_below (drop n ks) (l ∷ ls) ≡ (if is_top_below (slice_get ks n) l then are_below (drop (suc n) ks) ls else false)
 heads [] ls zero l = refl
 heads [] ls (suc n) l = refl
 heads (k ∷ ks) ls zero l = refl
 heads (k ∷ ks) ls (suc n) l = heads ks ls n l
 
--- the kinds from the top, and those that they are to be below, from a place on
+-- the kinds from the top from a place on are below those that they have to be below
 abbrev pub left_below : List Kind → List Kind → ℕ → Bool
 left_below ks arguments n = are_below (drop n ks) (drop n (reverse arguments))
 

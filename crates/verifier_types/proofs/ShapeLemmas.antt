@@ -1,4 +1,4 @@
--- The kinds of places, of which those are listed that aren't any.
+-- The kinds of places, of which those other than Any are listed.
 use Rattle.std.specs.Prelude.{ℕ, zero, suc, ◌≡◌, ◌≢◌, ◌+◌, ◌-◌, ◌<◌, ◌≤◌, cond, Bool, true, false, nat_eq, IsTrue, Option, Some, None, List, [], ◌∷◌, ◌++◌, length, drop, slice_get, All}
 use Rattle.std.specs.Option.{option_map_or, option_to_list}
 use Rattle.std.proofs.Common.{arith, get_or, refl, sym, ap, ◌∙◌, inl, inr}
@@ -18,27 +18,27 @@ use Rattle.verifier_types.specs.Kept.{AreKept, AreListedAbove, IsReaching, kept_
 abbrev pub Place : Type 0
 Place = ℕ × Kind
 
--- the kind of what was found, or any
+-- the kind of the place that was found, else Any
 abbrev pub found_kind : Option Place → Kind
 found_kind o = option_map_or (λ place. place.1) o kind.Any
 
--- as many kinds as places
+-- there are as many kinds as places
 pub length-frame_kinds : (places : List Place) (n : ℕ) → length (frame_kinds places n) ≡ n
 length-frame_kinds places zero = refl
 length-frame_kinds places (suc n) = ap suc (length-frame_kinds places n)
 
--- without the top places
+-- the kinds without those of the top places
 pub drop-frame_kinds : (places : List Place) (n d e : ℕ) → e ≡ n + d → drop n (frame_kinds places e) ≡ frame_kinds places d
 drop-frame_kinds places zero d e sum = ap (frame_kinds places) (omega (arith, sum))
 drop-frame_kinds places (suc n) d zero sum = absurd (omega (arith, sum))
 drop-frame_kinds places (suc n) d (suc e) sum = drop-frame_kinds places n d e (omega (arith, sum))
 
--- a place that isn't listed is of any kind
+-- a place that is not listed has kind Any
 pub place_missing : (places : List Place) (n : ℕ) → All (λ place. place_number place < n) places → place_kind places n ≡ kind.Any
 place_missing places n within =
     ap found_kind (sym (number_missing place_number places n (λ j d inside same. absurd (omega (arith, within j d inside, same)))))
 
--- one more place, which no other kind sees
+-- one more place does not change the kinds of the others
 pub place_before : (places : List Place) (q n : ℕ) (k : Kind) → n ≢ q → place_kind (places ++ (q, k) ∷ []) n ≡ place_kind places n
 place_before [] q n k other =
     ap (λ b. found_kind (cond b (Some (q, k)) None)) (ne_eqb q n (λ e. absurd (other (sym e))))
@@ -54,7 +54,7 @@ kinds_before places q (suc n) k below =
     ap (λ j. j ∷ frame_kinds (places ++ (q, k) ∷ []) n) (place_before places q n k (λ e. absurd (omega (arith, below, e))))
     ∙ ap (λ js. place_kind places n ∷ js) (kinds_before places q n k (omega (arith, below)))
 
--- the last place of all has the kind that it is listed with
+-- the last place has the kind with which it is listed
 pub place_last : (places : List Place) (n : ℕ) (k : Kind) → All (λ place. place_number place < n) places → place_kind (places ++ (n, k) ∷ []) n ≡ k
 place_last [] n k within = ap (λ b. found_kind (cond b (Some (n, k)) None)) (eq-eqb n n refl)
 place_last ((m, j) ∷ places) n k within =
@@ -62,7 +62,7 @@ place_last ((m, j) ∷ places) n k within =
     ap (λ b. found_kind (cond b (Some (m, j)) (with_number place_number (places ++ (n, k) ∷ []) n))) (ne_eqb m n (λ e. absurd (omega (arith, below, e))))
     ∙ place_last places n k (λ i d inside. within (suc i) d (omega arith))
 
--- a place pushed with its kind, or with any
+-- the kinds after a place was pushed, with its kind or with Any
 pub kinds_pushed : (places : List Place) (n : ℕ) (k : Kind) → All (λ place. place_number place < n) places → frame_kinds (places ++ (n, k) ∷ []) (suc n) ≡ k ∷ frame_kinds places n
 kinds_pushed places n k within =
     ap (λ j. j ∷ frame_kinds (places ++ (n, k) ∷ []) n) (place_last places n k within)
@@ -71,7 +71,7 @@ kinds_pushed places n k within =
 pub any_pushed : (places : List Place) (n : ℕ) → All (λ place. place_number place < n) places → frame_kinds places (suc n) ≡ kind.Any ∷ frame_kinds places n
 any_pushed places n within = ap (λ k. k ∷ frame_kinds places n) (place_missing places n within)
 
--- the kind that stands so far from the top
+-- the kind of the place that has n places above it
 pub kind_from_top : (places : List Place) (n d : ℕ) → n < d → slice_get (frame_kinds places d) n ≡ Some (place_kind places (d - 1 - n))
 kind_from_top places n zero within = absurd (omega arith)
 kind_from_top places zero (suc d) within =
@@ -81,7 +81,7 @@ kind_from_top places (suc n) (suc d) within =
     let same : d - 1 - n ≡ suc d - 1 - suc n = omega arith in
     kind_from_top places n d (omega (arith, within)) ∙ ap (λ m. Some (place_kind places m)) same
 
--- what stands at a place is below what is listed for it, or nothing is
+-- the kind of a place is below the one that is listed for it, if one is listed
 place_below : (places listed : List Place) (d : ℕ) (o : Option Place) → with_number place_number listed d ≡ o → AreListedAbove places listed → IsTrue (is_below (place_kind places d) (found_kind o))
 place_below places listed d None is above = refl
 place_below places listed d (Some place) is above =
@@ -91,13 +91,13 @@ place_below places listed d (Some place) is above =
     let low = rw found.0 at low in
     low
 
--- kinds that are below those of a frame, by the places that it lists
+-- kinds are below those of a frame if those of its listed places are
 pub below_from_listed : (places listed : List Place) (d : ℕ) → AreListedAbove places listed → AreBelow (frame_kinds places d) (frame_kinds listed d)
 below_from_listed places listed zero above = tt
 below_from_listed places listed (suc d) above =
     (place_below places listed d (with_number place_number listed d) refl above, below_from_listed places listed d above)
 
--- the kinds at a place
+-- the kind at a place is below the frame's
 below_at : (places listed : List Place) (d n : ℕ) → n < d → AreBelow (frame_kinds places d) (frame_kinds listed d) → IsTrue (is_below (place_kind places n) (place_kind listed n))
 below_at places listed zero n within below = absurd (omega arith)
 below_at places listed (suc d) n within below = elim (cases_lt n d) [
@@ -112,11 +112,11 @@ listed_from_below places listed d up within below i e inside =
     let low = below_at places listed d n (within i e inside) below in
     rw found low
 
--- the depth that is kept is that of the state
+-- the depth that is stored is that of the state
 pub depth_is : (s : Shape) (depth : ℕ) (places : List Place) (bound : List Bool) → kept_shape depth places bound ≡ s → depth ≡ length s.kinds
 depth_is s depth places bound is = sym (length-frame_kinds places depth) ∙ ap (λ t. length t.kinds) is
 
--- one more place, of any kind or listed
+-- the kinds after one more place of kind Any, or of a listed kind
 pub any_more : (places : List Place) (n : ℕ) → All (λ place. place_number place < n) places → frame_kinds places (n + 1) ≡ kind.Any ∷ frame_kinds places n
 any_more places n within = simp unary_clauses (any_pushed places n within)
 
@@ -136,7 +136,7 @@ kept_pushed places n k kept = record {
     one n k zero d inside = omega arith
     one n k (suc i) d inside = absurd (omega (arith, inside))
 
--- what is left where the last place is taken away, which is at the depth or above it
+-- what remains after the last place was removed, which is at the depth or above it
 pub record IsCutOnce (depth : ℕ) (xs ys : List Place) : Type 0 where
   pub rise : Rise place_number ys
   pub kinds : frame_kinds ys depth ≡ frame_kinds xs depth
@@ -161,13 +161,13 @@ cut_once depth xs ys o x up split is reaching =
         let low = rw (get_or-append_seam ys x [] x) at low in
         low
 
--- the same where `pop` answered the last
+-- what remains after `pop` returned the last place
 pub cut_popped : (depth n : ℕ) (xs ys : List Place) (o : Option Place) → Rise place_number xs → length xs ≡ n → xs ≡ ys ++ option_to_list o → ((x : Place) → 0 < n → o ≡ Some (get_or xs (n - 1) x)) → IsReaching depth xs → IsCutOnce depth xs ys
 cut_popped depth n xs ys o up long split value reaching =
     let some = (reaching (0, kind.Any)).0 in
     cut_once depth xs ys o (get_or xs (n - 1) (0, kind.Any)) up split (value (0, kind.Any) (omega (arith, some, long))) reaching
 
--- the places below the cut
+-- the kinds of the places below the cut
 pub cut_kinds : (places : List Place) (depth lower : ℕ) → lower ≤ depth → drop (length (frame_kinds places depth) - lower) (frame_kinds places depth) ≡ frame_kinds places lower
 cut_kinds places depth lower low =
     drop-frame_kinds places (length (frame_kinds places depth) - lower) lower depth (omega (arith, low, length-frame_kinds places depth))
@@ -186,7 +186,7 @@ cut_below depth places bound s f is low kept below =
     let kinds = rw (cut_kinds places depth f.depth low) at kinds in
     (listed_from_below places f.places f.depth kept.rise kept.within kinds, below.bound)
 
--- cutting what was popped is cutting
+-- cutting a state after removing places from its top is cutting it
 pub cut_once_popped : (s : Shape) (count lower : ℕ) → count + lower ≤ length s.kinds → cut_shape (popped_shape s count) lower ≡ cut_shape s lower
 cut_once_popped s count lower low = ap (λ ks. record { kinds = ks; bound = s.bound }) (dropped s.kinds count lower low)
   where
@@ -202,7 +202,7 @@ cut_at_depth s depth same =
     let none : length s.kinds - depth ≡ 0 = omega (arith, same) in
     ap (λ n. record { kinds = drop n s.kinds; bound = s.bound }) none
 
--- kinds below others are as many
+-- if kinds are below others, there are equally many
 pub below-length : (ks ls : List Kind) → AreBelow ks ls → length ks ≡ length ls
 below-length [] [] below = refl
 below-length [] (l ∷ ls) below = absurd below

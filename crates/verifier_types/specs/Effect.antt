@@ -16,7 +16,7 @@ use Rattle.mcode.specs.declared.kind.Kind.{Kind}
 use Rattle.mcode.specs.declared.kind.Kind.TheVariants as kind
 use Rattle.verifier_types.specs.Shape.{Shape, is_bound}
 
--- how many keys a constant has that is a proper list of terms of which no two are the same
+-- the number of keys of a constant that is a proper list of terms that all differ, None if it is not
 abbrev pub key_count : Program → ℕ → Option ℕ
 key_count p constant = option_map length (option_and_then map_keys (slice_get p.constants constant))
 
@@ -25,12 +25,12 @@ abbrev pub arguments_of : Option Routine → List Kind
 arguments_of None = []
 arguments_of (Some t) = t.arguments
 
--- the kind of what a routine gives
+-- the kind of a routine's result
 abbrev pub result_of : Option Routine → Kind
 result_of None = kind.Any
 result_of (Some t) = t.result
 
--- how many operands an instruction needs
+-- the number of operands that an instruction needs
 abbrev pub needs : Program → Instr → ℕ
 needs p instr.Load = 0
 needs p (instr.Const c) = 0
@@ -61,15 +61,15 @@ needs p (instr.Invoke r l) = length (arguments_of (routine_at p r))
 needs p instr.Return = 1
 needs p instr.Fail = 0
 
--- the constant that an instruction names is there, and has the form that it needs
+-- the constant that an instruction names exists and has the form that it needs
 abbrev pub IsConstantFit : Program → Instr → Type 0
 IsConstantFit p (instr.Const c) = c < length p.constants
 IsConstantFit p (instr.Value c l) = c < length p.constants
 IsConstantFit p (instr.MakeMap c l) = IsSome (key_count p c)
 IsConstantFit p i = Unit {0}
 
--- the kinds of the operands are those that an instruction needs, FIELD's place is one of the tuple's, and
--- CALL's function takes so many arguments
+-- whether the kinds of the operands are those that an instruction needs, FIELD's place is one of the tuple's, and
+-- CALL's function takes this number of arguments
 abbrev pub kinds_fit : Instr → List Kind → Bool
 kinds_fit (instr.Field i) (kind.Tuple n ∷ ks) = nat_lt 0 i && nat_le i n
 kinds_fit (instr.Field i) ks = false
@@ -86,41 +86,42 @@ kinds_fit (instr.Branch l) (kind.Bool ∷ ks) = true
 kinds_fit (instr.Branch l) ks = false
 kinds_fit i ks = true
 
--- kinds from the top that are at or below these, one each
+-- whether kinds from the top are equal to these or below them, one each
 abbrev pub are_below : List Kind → List Kind → Bool
 are_below ks [] = true
 are_below [] (l ∷ ls) = false
 are_below (k ∷ ks) (l ∷ ls) = if is_below k l then are_below ks ls else false
 
--- a kind at the top that is at or below this one
+-- whether a kind at the top exists and is equal to this one or below it
 abbrev pub is_top_below : Option Kind → Kind → Bool
 is_top_below None l = false
 is_top_below (Some k) l = is_below k l
 
--- the arguments of INVOKE are of its routine's kinds, and what RETURN ends its routine with is of that routine's kind
+-- whether the arguments of INVOKE are of its routine's kinds, and the result with which RETURN ends its routine is of
+-- that routine's kind
 abbrev pub passes : Program → Instr → List Kind → Bool
 passes p (instr.Invoke r l) ks = are_below ks (reverse (arguments_of (routine_at p r)))
 passes p instr.Return ks = is_top_below (slice_get ks 0) (result_of (own_routine p))
 passes p i ks = true
 
--- the slot is there, and where it is read it is bound
+-- whether the slot exists, and is bound if it is read
 abbrev pub slot_fits : Program → Instr → List Bool → Bool
 slot_fits p (instr.Get v) bound = is_bound bound v
 slot_fits p (instr.Bind v) bound = nat_lt v p.slots
 slot_fits p i bound = true
 
--- the kind of what a function gives
+-- the kind of a function's result
 abbrev pub given_kind : Gives → Kind
 given_kind gives.Boolean = kind.Bool
 given_kind gives.Integer = kind.Int
 given_kind gives.Any = kind.Any
 
--- the top
+-- the kind at the top, Any if there is none
 abbrev pub top_kind : List Kind → Kind
 top_kind [] = kind.Any
 top_kind (k ∷ ks) = k
 
--- the kinds, from the top, that stand for the operands once an instruction went on
+-- the kinds, from the top, that replace the operands after an instruction went on
 abbrev pub pushed_kinds : Program → Instr → List Kind → List Kind
 pushed_kinds p instr.Load ks = kind.Any ∷ []
 pushed_kinds p (instr.Const c) ks = option_map_or kind_of (slice_get p.constants c) kind.Any ∷ []
@@ -151,12 +152,12 @@ pushed_kinds p (instr.Invoke r l) ks = result_of (routine_at p r) ∷ []
 pushed_kinds p instr.Return ks = []
 pushed_kinds p instr.Fail ks = []
 
--- the slots that are bound once an instruction went on
+-- the slots that are bound after an instruction went on
 abbrev pub left_bound : Instr → List Bool → List Bool
 left_bound (instr.Bind v) bound = set bound v true
 left_bound i bound = bound
 
--- the state that an instruction leaves where it goes on
+-- the state that an instruction leaves if it goes on
 abbrev pub left_shape : Program → Instr → Shape → Shape
 left_shape p i s =
     record {
@@ -165,7 +166,7 @@ left_shape p i s =
       bound = left_bound i s.bound;
     }
 
--- the top stays where the instruction jumps
+-- whether the top stays if the instruction jumps
 abbrev pub top_stays : Instr → Bool
 top_stays (instr.Tuple n l) = true
 top_stays (instr.Cons l) = true
@@ -179,6 +180,6 @@ abbrev pub jump_shape : Program → Instr → Shape → Shape
 jump_shape p i s =
     record { kinds = if top_stays i then s.kinds else drop (needs p i) s.kinds; bound = s.bound }
 
--- the state that falls into the next instruction, none where the instruction doesn't go on
+-- the state that falls into the next instruction, None if the instruction does not go on
 abbrev pub falling_shape : Program → Instr → Shape → Option Shape
 falling_shape p i s = if goes_on i then Some (left_shape p i s) else None

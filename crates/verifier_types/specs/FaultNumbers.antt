@@ -1,9 +1,9 @@
--- The numbers that faults have in what programs print, and the instruction that they name.
+-- The numbers that programs print for faults, and the instruction that a fault names.
 use Rattle.std.specs.Prelude.{ℕ, Option, Some, None}
 use Rattle.verifier_types.specs.declared.fault.Fault.{Fault}
 use Rattle.verifier_types.specs.declared.fault.Fault.TheVariants.{Memory, Underflow, Kind, Unbound, JumpOutside, JumpBack, Frame, FallsOff, Constant, Depth, Routine, Budget}
 
--- the number that programs print
+-- the number that programs print for a fault
 abbrev pub number_of : Fault → ℕ
 number_of Memory = 1
 number_of (Underflow pc) = 40
@@ -18,7 +18,7 @@ number_of (Depth pc) = 48
 number_of (Routine pc) = 49
 number_of Budget = 39
 
--- the instruction at fault
+-- the number of the instruction at fault, None if the fault names none
 abbrev pub pc_of : Fault → Option ℕ
 pc_of Memory = None
 pc_of (Underflow pc) = Some pc

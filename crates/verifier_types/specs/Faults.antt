@@ -1,4 +1,4 @@
--- What a fault says of an instruction in its state: the first of its checks that fails.
+-- What a fault says about an instruction in its state: the first of its checks that fails.
 use Rattle.std.specs.Prelude.{ℕ, suc, ◌≡◌, ◌<◌, ◌≤◌, ◌⊎◌, IsTrue, Some, None, List, length, false}
 use Rattle.mcode.specs.Instr.{target_of, goes_on}
 use Rattle.mcode.specs.Program.{Program, frame_at}
@@ -10,11 +10,11 @@ use Rattle.verifier_types.specs.Fit.{most_places, IsTargetFit, IsPlaced, IsJumpF
 use Rattle.verifier_types.specs.declared.fault.Fault.{Fault}
 use Rattle.verifier_types.specs.declared.fault.Fault.TheVariants as fault
 
--- the instruction may jump to this one
+-- the instruction may jump to this target
 abbrev pub JumpsTo : Instr → ℕ → Type 0
 JumpsTo i target = target_of i ≡ Some target
 
--- it may jump to one inside the code and after it that has no frame
+-- the instruction may jump to a target inside the code and after it that has no frame
 pub record IsUnframed (p : Program) (pc : ℕ) (i : Instr) : Type 0 where
   pub target : ℕ
   pub jumps : JumpsTo i target
@@ -22,42 +22,42 @@ pub record IsUnframed (p : Program) (pc : ℕ) (i : Instr) : Type 0 where
   pub ahead : pc < target
   pub bare : frame_at p.frames target ≡ None
 
--- the target is what it has to be, the instruction may stand in its body, and the constant is what it has to be
+-- the target is right, the instruction is allowed in its body, and the constant is right
 pub record IsNamingFit (p : Program) (pc : ℕ) (i : Instr) : Type 0 where
   pub target : IsTargetFit p pc i
   pub placed : IsPlaced p i
   pub constant : IsConstantFit p i
 
--- and there are as many operands as are needed
+-- as `IsNamingFit`, and there are as many operands as are needed
 pub record AreOperandsFit (p : Program) (pc : ℕ) (i : Instr) (s : Shape) : Type 0 where
   pub naming : IsNamingFit p pc i
   pub operands : needs p i ≤ length s.kinds
 
--- and they are of the kinds that are needed, and of those that are passed
+-- as `AreOperandsFit`, and the operands are of the kinds that are needed and that are passed
 pub record AreKindsFit (p : Program) (pc : ℕ) (i : Instr) (s : Shape) : Type 0 where
   pub operands : AreOperandsFit p pc i s
   pub kinds : IsTrue (kinds_fit i s.kinds)
   pub passed : IsTrue (passes p i s.kinds)
 
--- and the slot is what it has to be
+-- as `AreKindsFit`, and the slot is right
 pub record IsSlotFit (p : Program) (pc : ℕ) (i : Instr) (s : Shape) : Type 0 where
   pub kinds : AreKindsFit p pc i s
   pub slot : IsTrue (slot_fits p i s.bound)
 
--- and neither what is left nor what a routine takes is too deep
+-- as `IsSlotFit`, and neither the stack that is left nor that of a routine is too deep
 pub record IsDepthFit (p : Program) (ds : List ℕ) (pc : ℕ) (i : Instr) (s : Shape) : Type 0 where
   pub slot : IsSlotFit p pc i s
   pub depth : length (left_shape p i s).kinds ≤ most_places
   pub inner : inner_depth p ds i s ≤ most_places
 
--- and the jump's state is at or below the frame
+-- as `IsDepthFit`, and the state of the jump is at or below the frame
 pub record IsLeavingFit (p : Program) (ds : List ℕ) (pc : ℕ) (i : Instr) (s : Shape) : Type 0 where
   pub depth : IsDepthFit p ds pc i s
   pub jump : IsJumpFit p i s
 
--- What a fault says of the instruction at pc in its state, where these are the depths of all bodies: the first in this
--- order that isn't what it has to be is its target, place, constant, number of operands, their kinds, slot, depth,
--- jump, or that it goes on though it is the last.
+-- What a fault says about the instruction at pc in its state, given the depths of all bodies. It is the first in this
+-- order that is wrong: the target, the body, the constant, the number of operands, their kinds, the slot, the depth,
+-- the jump, or that the instruction goes on although it is the last.
 abbrev pub IsFaultIn : Program → List ℕ → ℕ → Instr → Shape → Fault → Type 0
 IsFaultIn p ds pc i s fault.Memory = ⊥
 IsFaultIn p ds pc i s fault.Budget = ⊥

@@ -1,4 +1,4 @@
--- Words of what an instruction needs.
+-- Definitions about what an instruction needs.
 use Rattle.std.specs.Prelude.{ℕ, ◌≡◌, nat_lt, nat_le, Bool, true, false, ◌&&◌, Option, Some, option_map, List, length, map}
 use Rattle.term_core.specs.Datum.{Datum}
 use Rattle.prims_table.specs.Names.{takes}
@@ -10,11 +10,11 @@ use Rattle.mcode.specs.declared.instr.Instr.TheVariants as instr
 use Rattle.mcode.specs.declared.kind.Kind.{Kind}
 use Rattle.mcode.specs.declared.kind.Kind.TheVariants as kind
 
--- how many keys a term has that is a proper list of terms of which no two are the same
+-- the number of keys of a term that is a proper list of terms that all differ, None for any other term
 abbrev pub keys_counted : Datum → Option ℕ
 keys_counted d = option_map length (map_keys d)
 
--- these numbers of keys are those of the code's constants
+-- these are the numbers of keys of the code's constants
 abbrev pub AreCounts : Program → List (Option ℕ) → Type 0
 AreCounts p counts = counts ≡ map keys_counted p.constants
 
@@ -35,7 +35,7 @@ tops_fit (instr.Branch l) (Some kind.Bool) second = true
 tops_fit (instr.Branch l) top second = false
 tops_fit i top second = true
 
--- how many places an instruction pushes
+-- the number of places that an instruction pushes
 abbrev pub pushed_count : Instr → ℕ
 pushed_count (instr.Bind v) = 0
 pushed_count instr.Dup = 2

@@ -19,7 +19,7 @@ use crate::shape::Shape;
 use mcode::{Body, Instr};
 use std::alloc::Allocator;
 
-/// Whether an instruction may jump only to a frame that is after it and inside the code.
+/// Checks that the target of an instruction's jump, if it jumps, is inside the code, after it, and has a frame.
 fn check_target<A: Allocator>(body: &Body<'_, A>, pc: u16, instr: Instr) -> Result<(), Fault>
     ensures fit { OnOk result (IsTargetFit body.now pc instr) }
     ensures fault { IfErr result (λ fault. (ds : List ℕ) (s : shapes.Shape)
@@ -40,7 +40,7 @@ fn check_target<A: Allocator>(body: &Body<'_, A>, pc: u16, instr: Instr) -> Resu
     }
 }
 
-/// How many places an instruction takes from the top where it jumps.
+/// Returns how many places an instruction takes from the top if it jumps.
 fn jump_pops<A: Allocator>(body: &Body<'_, A>, instr: Instr, needed: usize) -> usize
     requires { needed ≡ needs body.now instr }
     ensures within { result ≤ needs body.now instr }
@@ -52,7 +52,7 @@ fn jump_pops<A: Allocator>(body: &Body<'_, A>, instr: Instr, needed: usize) -> u
     needed
 }
 
-/// Whether the state with which an instruction jumps is at or below the frame where it jumps.
+/// Returns whether the state with which an instruction jumps is at or below the frame at its target.
 fn is_jump_fit<A: Allocator>(
     body: &Body<'_, A>,
     instr: Instr,
@@ -73,7 +73,7 @@ fn is_jump_fit<A: Allocator>(
     shape.is_cut_below(jump_pops(body, instr, needed), frame)
 }
 
-/// Whether an instruction finds what it names.
+/// Checks that the target, the routine and the constant that an instruction names are what it needs.
 fn check_naming<A: Allocator>(
     body: &Body<'_, A>,
     counts: &[Option<usize>],
@@ -96,7 +96,7 @@ fn check_naming<A: Allocator>(
     }
 }
 
-/// Whether an instruction finds the operands that it needs, and how many these are.
+/// Checks that an instruction finds the operands that it needs, and returns their number.
 fn check_operands<A: Allocator>(
     body: &Body<'_, A>,
     counts: &[Option<usize>],
@@ -127,8 +127,8 @@ fn check_operands<A: Allocator>(
     }
 }
 
-/// Whether an instruction finds its slot, and neither it nor its routine needs too deep a stack; and how many operands it
-/// needs.
+/// Checks that an instruction finds its slot, and that neither it nor its routine makes the stack too deep. Returns the
+/// number of operands that it needs.
 fn check_depth<A: Allocator>(
     body: &Body<'_, A>,
     counts: &[Option<usize>],
@@ -158,10 +158,12 @@ fn check_depth<A: Allocator>(
     Ok(needed)
 }
 
-/// Whether an instruction is typed in a state, where these are the depths of all bodies behind its own. Its target is
-/// looked at first, then whether it may stand in its body, its constant, the number of its operands, their kinds, its
-/// slot, the depth that it or its routine needs, the state with which it jumps, and that it isn't the last where it goes
-/// on; the first of these that fails is the fault. Else how many operands it needs is answered.
+/// Checks that an instruction is typed in a state, given the depths of all bodies with higher numbers. Returns the
+/// number of operands that it needs.
+///
+/// The checks have an order, and the first that fails gives the fault. They check the target, whether the instruction
+/// is allowed in its body, the constant, the number of operands and their kinds. Then they check the slot, the depth
+/// that it or its routine needs, the state with which it jumps, and that it isn't the last instruction if it goes on.
 pub fn check<A: Allocator>(
     body: &Body<'_, A>,
     counts: &[Option<usize>],

@@ -1,4 +1,4 @@
-//! What an instruction needs, and how deep a stack it leaves.
+//! What an instruction needs, and the depth of the stack that it leaves.
 ghost use Rattle.std.specs.Prelude.{◌≡◌, ◌<◌, ◌≤◌, ◌↔◌, IsTrue, IsSome, OnOk, List, true, false, length, reverse, slice_get, slice_index};
 ghost use Rattle.std.specs.Option.{option_map_or};
 ghost use Rattle.prims_table.specs.Gives.{gives_of};
@@ -15,7 +15,7 @@ use crate::shape::{Shape, is_below};
 use mcode::{Body, Instr, Kind};
 use std::alloc::{AllocError, Allocator};
 
-/// How many arguments a routine has, 0 where it isn't there.
+/// Returns the number of arguments of a routine, 0 if it doesn't exist.
 pub fn argument_count<A: Allocator>(body: &Body<'_, A>, routine: u16) -> usize
     ensures { result ≡ length (arguments_of (routine_at body.now routine)) }
 {
@@ -25,7 +25,7 @@ pub fn argument_count<A: Allocator>(body: &Body<'_, A>, routine: u16) -> usize
     }
 }
 
-/// The kind of what a routine gives, any where it isn't there.
+/// Returns the kind of a routine's result, `Kind::Any` if it doesn't exist.
 pub fn result_kind<A: Allocator>(body: &Body<'_, A>, routine: u16) -> Kind
     ensures { result ≡ result_of (routine_at body.now routine) }
 {
@@ -35,7 +35,7 @@ pub fn result_kind<A: Allocator>(body: &Body<'_, A>, routine: u16) -> Kind
     }
 }
 
-/// How many operands an instruction needs.
+/// Returns the number of operands that an instruction needs.
 pub fn needed<A: Allocator>(body: &Body<'_, A>, counts: &[Option<usize>], instr: Instr) -> usize
     requires { AreCounts body.now counts.now }
     ensures { result ≡ needs body.now instr }
@@ -57,7 +57,7 @@ pub fn needed<A: Allocator>(body: &Body<'_, A>, counts: &[Option<usize>], instr:
     }
 }
 
-/// Whether the constant that an instruction names is there, and has the form that it needs.
+/// Returns whether the constant that an instruction names exists and has the form that it needs.
 pub fn is_constant_fit<A: Allocator>(
     body: &Body<'_, A>,
     counts: &[Option<usize>],
@@ -74,27 +74,27 @@ pub fn is_constant_fit<A: Allocator>(
     }
 }
 
-/// Whether a routine is there and behind a body.
-fn is_behind<A: Allocator>(body: &Body<'_, A>, routine: u16) -> bool
+/// Returns whether a routine exists and has a higher number than a body.
+fn is_beyond<A: Allocator>(body: &Body<'_, A>, routine: u16) -> bool
     ensures { IsTrue result ↔ ((body.now.around.number < routine) × IsSome (routine_at body.now routine)) }
 {
     body.number() < routine && body.routine(routine).is_some()
 }
 
-/// Whether an instruction may stand in a body.
+/// Returns whether an instruction is allowed in a body.
 pub fn is_placed<A: Allocator>(body: &Body<'_, A>, instr: Instr) -> bool
     ensures { IsTrue result ↔ IsPlaced body.now instr }
 {
     match instr {
-        Instr::Invoke { routine, .. } => is_behind(body, routine),
+        Instr::Invoke { routine, .. } => is_beyond(body, routine),
         Instr::Answer | Instr::NoAnswer => body.number() == 0,
         Instr::Return | Instr::Fail => 0 < body.number(),
         _ => true,
     }
 }
 
-/// Whether the two kinds at the top are those that an instruction needs, FIELD's place is one of the tuple's, and
-/// CALL's function takes so many arguments.
+/// Returns whether the two kinds at the top are those that an instruction needs, FIELD's place is one of the tuple's,
+/// and CALL's function takes this number of arguments.
 fn tops_fit(instr: Instr, top: Option<Kind>, second: Option<Kind>) -> bool
     ensures { result ≡ tops_are_fit instr top second }
 {
@@ -118,7 +118,7 @@ fn tops_fit(instr: Instr, top: Option<Kind>, second: Option<Kind>) -> bool
     }
 }
 
-/// Whether an instruction needs operands of some kind, or so many of them.
+/// Returns whether an instruction may need operands of certain kinds, or a certain number of them.
 fn asks_kinds(instr: Instr) -> bool
     ensures { result ≡ false → (ks : List KindValue) → kinds_fit instr ks ≡ true }
 {
@@ -134,7 +134,7 @@ fn asks_kinds(instr: Instr) -> bool
     )
 }
 
-/// Whether the operands are of the kinds that an instruction needs.
+/// Returns whether the operands are of the kinds that an instruction needs.
 pub fn are_kinds_fit<A: Allocator>(instr: Instr, shape: &Shape<A>) -> bool
     ensures { result ≡ kinds_fit instr shape.now.kinds }
 {
@@ -145,7 +145,7 @@ pub fn are_kinds_fit<A: Allocator>(instr: Instr, shape: &Shape<A>) -> bool
     tops_fit(instr, shape.kind(0), shape.kind(1))
 }
 
-/// Whether a kind is there and is another or below it.
+/// Returns whether a kind exists and is equal to another or below it.
 fn is_top_below(top: Option<Kind>, other: Kind) -> bool
     ensures { result ≡ is_kind_at_top_below top other }
 {
@@ -155,7 +155,8 @@ fn is_top_below(top: Option<Kind>, other: Kind) -> bool
     }
 }
 
-/// Whether the kinds at the top, one each, are those of arguments or below them, the lowest first.
+/// Returns whether the kinds at the top are equal to those of the arguments or below them, one each. `arguments` has
+/// the lowest first.
 fn are_tops_below<A: Allocator>(shape: &Shape<A>, arguments: &[Kind]) -> bool
     requires { length arguments.now ≤ most_arguments }
     ensures { result ≡ are_below shape.now.kinds (reverse arguments.now) }
@@ -169,8 +170,8 @@ fn are_tops_below<A: Allocator>(shape: &Shape<A>, arguments: &[Kind]) -> bool
     true
 }
 
-/// Whether the arguments of INVOKE are of its routine's kinds, and what RETURN ends its routine with is of that
-/// routine's kind.
+/// Returns whether the arguments of INVOKE are of its routine's kinds, and the result with which RETURN ends its
+/// routine is of that routine's kind.
 pub fn are_passed<A: Allocator>(body: &Body<'_, A>, instr: Instr, shape: &Shape<A>) -> bool
     ensures { result ≡ passes body.now instr shape.now.kinds }
 {
@@ -187,7 +188,7 @@ pub fn are_passed<A: Allocator>(body: &Body<'_, A>, instr: Instr, shape: &Shape<
     }
 }
 
-/// Whether the slot that an instruction names is there, and bound where it is read.
+/// Returns whether the slot that an instruction names exists, and is bound if it is read.
 pub fn is_slot_fit<A: Allocator>(body: &Body<'_, A>, instr: Instr, shape: &Shape<A>) -> bool
     ensures { result ≡ slot_fits body.now instr shape.now.bound }
 {
@@ -198,7 +199,7 @@ pub fn is_slot_fit<A: Allocator>(body: &Body<'_, A>, instr: Instr, shape: &Shape
     }
 }
 
-/// How many places an instruction pushes.
+/// Returns the number of places that an instruction pushes.
 fn pushed_count(instr: Instr) -> usize
     ensures { result ≡ count_pushed instr }
 {
@@ -211,7 +212,7 @@ fn pushed_count(instr: Instr) -> usize
     }
 }
 
-/// How many places an instruction leaves where it goes on.
+/// Returns the number of places that an instruction leaves if it goes on.
 pub fn left_depth<A: Allocator>(
     body: &Body<'_, A>,
     instr: Instr,
@@ -225,7 +226,7 @@ pub fn left_depth<A: Allocator>(
     usize::from(shape.depth()) - needed + pushed_count(instr)
 }
 
-/// The depth of a body's operand stack, 0 where the body isn't there.
+/// Returns the depth of a body's operand stack, 0 if the body doesn't exist.
 fn depth_at(depths: &[u16], number: u16) -> usize
     ensures { result ≡ slice_index depths.now number }
 {
@@ -235,7 +236,8 @@ fn depth_at(depths: &[u16], number: u16) -> usize
     }
 }
 
-/// How many places INVOKE takes at most while its routine runs, by the depths of all bodies; 0 of other instructions.
+/// Returns the largest number of places in use while INVOKE's routine runs, given the depths of all bodies; 0 for any
+/// other instruction.
 pub fn inner_depth<A: Allocator>(
     body: &Body<'_, A>,
     depths: &[u16],
@@ -253,7 +255,7 @@ pub fn inner_depth<A: Allocator>(
     }
 }
 
-/// Whether the top stays where an instruction jumps.
+/// Returns whether the top stays if an instruction jumps.
 pub fn top_stays(instr: Instr) -> bool
     ensures { result ≡ top_is_kept instr }
 {

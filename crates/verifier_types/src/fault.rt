@@ -1,47 +1,47 @@
-//! Why code is refused.
+//! Why code is rejected.
 use std::alloc::AllocError;
 use thiserror::Error;
 
-/// Why code is refused. Each fault but `Memory` and `Budget` names the number of an instruction.
+/// Why code is rejected. Each fault but `Memory` and `Budget` has the number of an instruction.
 #[derive(Clone, Copy, Debug, PartialEq, Eq, Error)]
 pub enum Fault {
-    /// No memory was given.
+    /// An allocation failed.
     #[error("out of memory")]
     Memory,
-    /// Fewer operands than the instruction needs.
+    /// There are fewer operands than the instruction needs.
     #[error("instruction {0} finds too few operands")]
     Underflow(u16),
-    /// An operand of another kind than the instruction or its routine needs, a place that the tuple doesn't have, or a
-    /// function that takes another number of arguments.
+    /// An operand has another kind than the instruction or its routine needs, the tuple doesn't have the place, or the
+    /// function takes another number of arguments.
     #[error("instruction {0} finds an operand of the wrong kind")]
     Kind(u16),
-    /// A slot that the code doesn't have, or one that is read where it isn't bound.
+    /// The code doesn't have the slot, or the slot is read and isn't bound.
     #[error("instruction {0} names a slot that isn't bound")]
     Unbound(u16),
-    /// A jump to no instruction.
+    /// The target of a jump is outside the body.
     #[error("instruction {0} jumps out of the code")]
     JumpOutside(u16),
-    /// A jump to an instruction that isn't after it.
+    /// The target of a jump isn't after it.
     #[error("instruction {0} jumps back")]
     JumpBack(u16),
-    /// A frame that isn't fit, a jump or an instruction that needs one and has none, or a state that isn't at or below
-    /// the one where it leads.
+    /// A frame isn't fit, a jump or an instruction needs a frame and has none, or a state isn't at or below the frame
+    /// where it leads.
     #[error("the frame at or of instruction {0} doesn't hold")]
     Frame(u16),
     /// The last instruction goes on, or there is none.
     #[error("the code ends after instruction {0}, which goes on")]
     FallsOff(u16),
-    /// A constant that isn't there, or is no list of keys where one is needed.
+    /// The constant doesn't exist, or isn't a list of keys although one is needed.
     #[error("instruction {0} names a constant that isn't what it needs")]
     Constant(u16),
-    /// An operand stack deeper than `MAX_DEPTH`, that of an invoked routine counted in.
+    /// The operand stack would be deeper than `MAX_DEPTH`, counting that of an invoked routine.
     #[error("instruction {0} leaves a stack that is too deep")]
     Depth(u16),
-    /// A routine that isn't there or isn't behind the body that invokes it, or an instruction that may not stand in its
-    /// body.
+    /// The routine doesn't exist or hasn't a higher number than the body that invokes it, or the instruction isn't
+    /// allowed in its body.
     #[error("instruction {0} invokes no later routine, or may not stand in its body")]
     Routine(u16),
-    /// A body with runs of more instructions than `budget::MAX_BUDGET`.
+    /// A run of the body may take more instructions than `budget::MAX_BUDGET`.
     #[error("the body may take too many instructions")]
     Budget,
 }
@@ -61,7 +61,7 @@ impl Fault {
     ghost use Rattle.std.specs.Prelude.{◌≡◌};
     ghost use Rattle.verifier_types.specs.FaultNumbers.{number_of, pc_of};
 
-    /// The number that the fault has in what programs print.
+    /// Returns the number, 1 or 39 to 49, that programs print for the fault.
     pub const fn number(self) -> u8
         ensures { result ≡ number_of self }
     {
@@ -81,7 +81,7 @@ impl Fault {
         }
     }
 
-    /// The number of the instruction that the fault names.
+    /// Returns the number of the instruction that the fault names, or `None` if it names none.
     pub const fn pc(self) -> Option<u16>
         ensures { result ≡ pc_of self }
     {

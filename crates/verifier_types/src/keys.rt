@@ -10,7 +10,8 @@ use std::alloc::{AllocError, Allocator};
 use term_build::are_apart;
 use term_core::Term;
 
-/// How many keys a term has that is a proper list of terms of which no two are the same.
+/// Returns the number of keys of a term that is a proper list of terms that all differ, or `None` for any other term.
+/// Fails if an allocation fails.
 fn counted<A: Allocator + Copy>(alloc: A, term: &Term<A>) -> Result<Option<usize>, AllocError>
     ensures { IfOk result (λ count. count ≡ keys_counted term.now) }
 {
@@ -24,7 +25,8 @@ fn counted<A: Allocator + Copy>(alloc: A, term: &Term<A>) -> Result<Option<usize
     }
 }
 
-/// The same for each of the constants.
+/// Returns for each of the constants the number of its keys if it is a proper list of terms that all differ, otherwise
+/// `None`. Fails if an allocation fails.
 pub fn key_counts<A: Allocator + Copy>(
     alloc: A,
     constants: &[Term<A>],
@@ -38,7 +40,7 @@ pub fn key_counts<A: Allocator + Copy>(
     Ok(counts)
 }
 
-/// The same for the constant of a number, where it is there.
+/// Returns the number of keys of the constant with this number, or `None` if it doesn't exist or is not a list of keys.
 pub(crate) fn key_count<A: Allocator>(
     body: &Body<'_, A>,
     counts: &[Option<usize>],

@@ -1,4 +1,4 @@
-//! What an instruction leaves in the state that is known.
+//! The state that an instruction leaves.
 ghost use Rattle.std.specs.Prelude.{◌≡◌, ◌+◌, ◌<◌, ◌≤◌, ◌++◌, OnOk, length, slice_get};
 ghost use Rattle.std.specs.Option.{option_map_or};
 ghost use Rattle.mcode.specs.Kind.{kind_of as exact_kind};
@@ -19,15 +19,15 @@ use term_operand::Operand;
 
 /// The kinds that an instruction pushes, from the lowest.
 pub(crate) enum Pushed {
-    /// None.
+    /// No kind.
     Nothing,
-    /// One.
+    /// One kind.
     One(Kind),
-    /// The same twice.
+    /// One kind, pushed twice.
     Twice(Kind),
 }
 
-/// The kind of an atom.
+/// Returns the kind of an atom: `Kind::Bool` for `true` and `false`, otherwise `Kind::Any`.
 fn atom_kind<A: Allocator>(term: &Term<A>) -> Kind
     ensures { result ≡ boolean_kind term.now }
 {
@@ -37,7 +37,7 @@ fn atom_kind<A: Allocator>(term: &Term<A>) -> Kind
     }
 }
 
-/// The kind of a tuple of these elements.
+/// Returns the kind of a tuple of these elements.
 fn tuple_kind<A: Allocator>(elements: &[Term<A>]) -> Kind
     requires { length elements.now ≤ MAX_TUPLE }
     ensures { result ≡ kind.Tuple (length elements.now) }
@@ -45,7 +45,7 @@ fn tuple_kind<A: Allocator>(elements: &[Term<A>]) -> Kind
     Kind::Tuple(elements.len() as u16)
 }
 
-/// The kind that is exact for a term.
+/// Returns the most exact kind of a term.
 fn kind_of<A: Allocator>(term: &Term<A>) -> Kind
     ensures { result ≡ exact_kind term.now }
 {
@@ -60,7 +60,7 @@ fn kind_of<A: Allocator>(term: &Term<A>) -> Kind
     }
 }
 
-/// The kind of a constant.
+/// Returns the kind of a constant, `Kind::Any` if it doesn't exist.
 fn constant_kind<A: Allocator>(body: &Body<'_, A>, constant: u16) -> Kind
     ensures { result ≡ option_map_or exact_kind (slice_get body.now.constants constant) kind.Any }
 {
@@ -70,7 +70,7 @@ fn constant_kind<A: Allocator>(body: &Body<'_, A>, constant: u16) -> Kind
     }
 }
 
-/// The kind of what a function gives.
+/// Returns the kind of a function's result.
 fn given_kind(gives: Gives) -> Kind
     ensures { result ≡ kind_given gives }
 {
@@ -81,7 +81,7 @@ fn given_kind(gives: Gives) -> Kind
     }
 }
 
-/// The kinds that an instruction pushes, where this one was at the top.
+/// Returns the kinds that an instruction pushes if this kind was at the top.
 fn kinds_pushed<A: Allocator>(body: &Body<'_, A>, instr: Instr, top: Option<Kind>) -> Pushed
     ensures { pushed_list result ≡ pushed_for body.now instr top }
 {
@@ -121,7 +121,7 @@ fn push<A: Allocator>(shape: &mut Shape<A>, pushed: Pushed) -> Result<(), AllocE
     }
 }
 
-/// Binds the slot that an instruction binds.
+/// Binds the slot that an instruction binds, if any.
 fn bind<A: Allocator>(shape: &mut Shape<A>, instr: Instr)
     requires { IsBindable instr (length shape.old.bound) }
     ensures { shape.new ≡ record {
@@ -136,7 +136,7 @@ fn bind<A: Allocator>(shape: &mut Shape<A>, instr: Instr)
     }
 }
 
-/// The kind at the top, where what an instruction pushes goes by it.
+/// Returns the kind at the top if the instruction pushes it again, otherwise `None`.
 fn repeated_kind<A: Allocator>(instr: Instr, shape: &Shape<A>) -> Option<Kind>
     ensures { (p : Program) → pushed_for p instr result ≡ pushed_for p instr (slice_get shape.now.kinds 0) }
 {
@@ -146,7 +146,8 @@ fn repeated_kind<A: Allocator>(instr: Instr, shape: &Shape<A>) -> Option<Kind>
     }
 }
 
-/// Turns the state in which an instruction that needs so many operands began into the one that it leaves.
+/// Turns the state in which an instruction began into the state that it leaves. `needed` is the number of operands that
+/// it needs. Fails if an allocation fails.
 pub fn leave<A: Allocator>(
     body: &Body<'_, A>,
     pc: u16,

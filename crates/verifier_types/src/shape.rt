@@ -10,7 +10,7 @@ use mcode::{Frame, Kind};
 use std::alloc::{AllocError, Allocator};
 use std::marker::Model;
 
-/// Whether a kind is another or below it.
+/// Returns whether a kind is equal to another or below it.
 pub(crate) fn is_below(kind: Kind, other: Kind) -> bool
     ensures { result ≡ is_kind_below kind other }
 {
@@ -31,7 +31,7 @@ pub(crate) fn is_below(kind: Kind, other: Kind) -> bool
     }
 }
 
-/// The kind of a place, which is `Kind::Any` where it isn't listed.
+/// Returns the kind of a place, `Kind::Any` if it isn't listed.
 fn place_kind(places: &[(u16, Kind)], place: u16) -> Kind
     requires { Rise place_number places.now }
     ensures { result ≡ kind_of_place places.now place }
@@ -42,7 +42,7 @@ fn place_kind(places: &[(u16, Kind)], place: u16) -> Kind
     }
 }
 
-/// Whether the last of these places is at this depth or above it.
+/// Returns whether there are places and the last one is at this depth or above it.
 fn reach(places: &[(u16, Kind)], depth: u16) -> bool
     requires { Rise place_number places.now }
     ensures above { result ≡ true → IsReaching depth places.now }
@@ -54,7 +54,7 @@ fn reach(places: &[(u16, Kind)], depth: u16) -> bool
     }
 }
 
-/// Takes the places away that are at this depth or above it.
+/// Removes the places at this depth or above it.
 fn cut_places<A: Allocator>(places: &mut Vec<(u16, Kind), A>, depth: u16)
     requires { Rise place_number places.old.items }
     ensures kept { AreKept depth places.new.items }
@@ -65,7 +65,8 @@ fn cut_places<A: Allocator>(places: &mut Vec<(u16, Kind), A>, depth: u16)
     }
 }
 
-/// Adds a place above those that are there.
+/// Appends a place above those that are there. A place of kind `Kind::Any` isn't stored. Fails if an allocation fails;
+/// the places are then unchanged.
 fn push_place<A: Allocator>(
     places: &mut Vec<(u16, Kind), A>,
     depth: u16,
@@ -87,7 +88,7 @@ fn push_place<A: Allocator>(
     }
 }
 
-/// Whether what stands at each of these places is below what is listed for it.
+/// Returns whether the kind of each listed place is, among these places, equal to the listed kind or below it.
 fn listed_above(places: &[(u16, Kind)], listed: &[(u16, Kind)]) -> bool
     requires { Rise place_number places.now }
     ensures { IsTrue result ↔ AreListedAbove places.now listed.now }
@@ -97,7 +98,7 @@ fn listed_above(places: &[(u16, Kind)], listed: &[(u16, Kind)]) -> bool
         .all(|entry| is_below(place_kind(places, entry.0), entry.1))
 }
 
-/// Whether a slot is there and bound.
+/// Returns whether a slot exists and is bound.
 fn bound_at(bound: &[bool], slot: u8) -> bool
     ensures { result ≡ is_bound bound.now slot }
 {
@@ -107,7 +108,7 @@ fn bound_at(bound: &[bool], slot: u8) -> bool
     }
 }
 
-/// Whether all of these slots are there and bound.
+/// Returns whether all of these slots exist and are bound.
 fn all_bound(bound: &[bool], slots: &[u8]) -> bool
     ensures { IsTrue result ↔ All (λ slot. IsTrue (is_bound bound.now slot)) slots.now }
 {
@@ -124,14 +125,14 @@ fn mark(bound: &mut [bool], slots: &[u8])
     }
 }
 
-/// Marks no slot as bound.
+/// Marks all slots as not bound.
 fn unmark(bound: &mut [bool])
     ensures { bound.new ≡ replicate (length bound.old) false }
 {
     bound.fill(false);
 }
 
-/// These places in place of those that are there, of which none is left where there is no memory.
+/// Replaces the places by copies of these. No places are left if an allocation fails.
 fn copy_places<A: Allocator>(
     places: &mut Vec<(u16, Kind), A>,
     listed: &[(u16, Kind)],
@@ -144,7 +145,7 @@ fn copy_places<A: Allocator>(
     places.extend_from_slice(listed)
 }
 
-/// What is known of a state of the machine, of which the places with any kind aren't kept.
+/// What is known of a state of the machine. Places of any kind aren't stored.
 #[derive(Drop)]
 pub struct Shape<A: Allocator> {
     depth: u16,
@@ -171,7 +172,7 @@ impl<A: Allocator> Shape<A> {
     ghost use Rattle.verifier_types.specs.Shape.{frame_kinds, marked, is_bound, IsAtOrBelow, IsCutBelow, cut_shape};
     ghost use Rattle.verifier_types.specs.Kept.{AreKept, popped_shape, entered_shape};
 
-    /// Nothing on the stack, and none of so many slots bound.
+    /// Makes a state with nothing on the stack, and this number of slots, none bound. Fails if an allocation fails.
     pub fn start(alloc: A, slots: u16) -> Result<Self, AllocError>
     where
         A: Copy,
@@ -185,14 +186,14 @@ impl<A: Allocator> Shape<A> {
         })
     }
 
-    /// How many places there are.
+    /// Returns the number of places.
     pub fn depth(&self) -> u16
         ensures { result ≡ length self.now.kinds }
     {
         self.depth
     }
 
-    /// The kind of the place with so many above it.
+    /// Returns the kind of the place that has `above` places above it, or `None` if there is no such place.
     pub fn kind(&self, above: u16) -> Option<Kind>
         ensures { result ≡ slice_get self.now.kinds above }
     {
@@ -202,7 +203,7 @@ impl<A: Allocator> Shape<A> {
         Some(place_kind(self.places.as_slice(), self.depth - 1 - above))
     }
 
-    /// Takes so many places from the top.
+    /// Removes `count` places from the top.
     pub fn pop(&mut self, count: usize)
         requires { count ≤ length self.old.kinds }
         ensures { self.new ≡ popped_shape self.old count }
@@ -212,7 +213,7 @@ impl<A: Allocator> Shape<A> {
         self.depth = depth;
     }
 
-    /// Puts a place on the top.
+    /// Pushes a place of this kind. Fails if an allocation fails.
     pub fn push(&mut self, kind: Kind) -> Result<(), AllocError>
         requires { length self.old.kinds + 1 < 65536 }
         ensures { OnOk result (self.new ≡ record
@@ -223,7 +224,7 @@ impl<A: Allocator> Shape<A> {
         Ok(())
     }
 
-    /// Binds a slot.
+    /// Marks a slot as bound.
     pub fn bind(&mut self, slot: u8)
         requires { slot < length self.old.bound }
         ensures { self.new ≡ record {
@@ -235,14 +236,14 @@ impl<A: Allocator> Shape<A> {
         self.bound[usize::from(slot)] = true;
     }
 
-    /// Whether a slot is there and bound.
+    /// Returns whether a slot exists and is bound.
     pub fn is_bound(&self, slot: u8) -> bool
         ensures { result ≡ is_bound self.now.bound slot }
     {
         bound_at(self.bound.as_slice(), slot)
     }
 
-    /// The state in which an instruction with this frame begins.
+    /// Replaces the state by the one in which an instruction with this frame begins. Fails if an allocation fails.
     pub fn enter(&mut self, frame: &Frame<A>) -> Result<(), AllocError>
         requires places { AreKept frame.now.depth frame.now.places }
         requires slots { All (λ slot. slot < length self.old.bound) frame.now.slots }
@@ -256,7 +257,7 @@ impl<A: Allocator> Shape<A> {
         Ok(())
     }
 
-    /// Whether the state, once it is cut to a frame's depth, is at or below the frame.
+    /// Returns whether the state, cut to a frame's depth, is at or below the frame.
     fn is_below_at_cut(&self, frame: &Frame<A>) -> bool
         requires deep { frame.now.depth ≤ length self.now.kinds }
         requires frame { AreKept frame.now.depth frame.now.places }
@@ -269,8 +270,8 @@ impl<A: Allocator> Shape<A> {
         all_bound(self.bound.as_slice(), frame.slots.as_slice())
     }
 
-    /// Whether the state without so many places from the top, once it is cut to a frame's depth, is at or below the
-    /// frame.
+    /// Returns whether the state, without `count` places from the top and then cut to a frame's depth, is at or below
+    /// the frame.
     pub fn is_cut_below(&self, count: usize, frame: &Frame<A>) -> bool
         requires count { count ≤ length self.now.kinds }
         requires frame { AreKept frame.now.depth frame.now.places }
@@ -282,7 +283,7 @@ impl<A: Allocator> Shape<A> {
         self.is_below_at_cut(frame)
     }
 
-    /// Whether the state is as deep as a frame, and at or below it.
+    /// Returns whether the state is as deep as a frame, and at or below it.
     pub fn is_at_or_below(&self, frame: &Frame<A>) -> bool
         requires { AreKept frame.now.depth frame.now.places }
         ensures { IsTrue result ↔ IsAtOrBelow self.now (frame_of frame.now) }

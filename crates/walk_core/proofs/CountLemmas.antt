@@ -1,4 +1,4 @@
--- A session's fixes along what it does at a part.
+-- A session's fixes over its operations at a part.
 use Rattle.std.proofs.Common.{◌≡◌, ℕ, ◌<◌, ◌==◌, refl, ap, sym, subst, ◌∙◌, [], ◌∷◌, ◌++◌, Some}
 use Rattle.std.specs.Prelude.{true, not, ◌&&◌, if◌then◌else◌}
 use Rattle.std.proofs.lemmas.Bool.{eqb-true, eqb-false, eq-eqb}
@@ -14,7 +14,7 @@ use Rattle.walk_core.specs.Goes.{Way, Visits, Goes, Drifted}
 use Rattle.walk_core.specs.Goes.Goes.{stays, goes}
 use Rattle.walk_core.specs.Walk.{Walk, part_at, scope_at}
 
--- what a session's answered entry makes of its count
+-- how an answered entry of a session changes its count
 pub turned_count : (h : Home) (old new : History) (act : Act) (said : Said) → TurnedAt h old act (Some (Replied said)) new → fix_count h.number new ≡ fixes_after act (fix_count h.number old)
 turned_count h old new act said t =
     ap (fix_count h.number) t.grown ∙ fold-append step 0 (old ++ t.between) (entry ∷ []) ∙ mine ∙ ap (fixes_after act) (count_own h.number old t.between t.others.others)
@@ -28,7 +28,7 @@ turned_count h old new act said t =
     mine : step (fix_count h.number (old ++ t.between)) entry ≡ fixes_after act (fix_count h.number (old ++ t.between))
     mine = let is : (h.number == h.number) ≡ true = eq-eqb h.number h.number refl in rw is refl
 
--- visits leave it
+-- visits don't change the session's count
 visit_count : (h : Home) (w : Walk) (wanted : ℕ → ℕ) (a b : Way) (k : ℕ) → Visits h w wanted a b → fix_count h.number (b.views k) ≡ fix_count h.number (a.views k)
 visit_count h w wanted a b k v =
     by_test (k == part_at w a.at) _
@@ -40,7 +40,7 @@ goes_count h w wanted a b k stays = refl
 goes_count h w wanted a c k (goes {b} way more v) =
     visit_count h w wanted b c k v ∙ goes_count h w wanted a b k way
 
--- and so do others
+-- entries of others don't change the session's count
 pub drifted_count : (h : Home) (v u : Views) (k : ℕ) → k < h.options.parts → Drifted h v u → fix_count h.number (u k) ≡ fix_count h.number (v k)
 drifted_count h v u k inside drifted =
     let d = drifted k inside in

@@ -32,7 +32,7 @@ use Rattle.walk_core.proofs.StepLemmas.{all_front, turned_grown, visit_entry, la
 
 -- ---- one visit
 
--- the part where a walk is
+-- the part where a walk is, is one of its table
 part_inside : (w : Walk) (now : Views) (at : Position) → IsWalk w → IsPosition w now at → part_at w at < w.options.parts
 part_inside w now (InPart part cursor) walk position = omega (arith, position.2, walk.parts.1)
 part_inside w now (AtNamed n) walk position = key_inside w (named_at w.plan n) walk
@@ -42,7 +42,7 @@ pub visit_grown : (h : Home) (w : Walk) (wanted : ℕ → ℕ) (a b : Way) → I
 visit_grown h w wanted a b is_at legal v =
     turned_grown h w.options (part_at w a.at) _ _ a.views b.views is_at.options legal v.turned
 
--- what a visit leaves, told by the walk's own options and number
+-- the history that a visit leaves, written with the walk's own options and number
 seen : (h : Home) (w : Walk) (wanted : ℕ → ℕ) (a b : Way) → IsAt h w → (v : Visits h w wanted a b) → b.views (part_at w a.at) ≡ past_of h w (wanted (length a.gained)) a b v.said v.turned ++ visit_entry w (scope_at w a.at) (wanted (length a.gained)) v.said ∷ []
 seen h w wanted a b is_at v =
     subst (λ (n : ℕ). b.views (part_at w a.at) ≡ past_of h w (wanted (length a.gained)) a b v.said v.turned ++ (record { session = n; act = Visit w.purpose w.program (scope_at w a.at) (wanted (length a.gained)); answer = Replied v.said }) ∷ []) is_at.number v.turned.here.grown
@@ -51,7 +51,7 @@ legal_behind : (h : Home) (w : Walk) (wanted : ℕ → ℕ) (a b : Way) → IsAt
 legal_behind h w wanted a b is_at v =
     subst (IsLegal (settings_of w.options)) (seen h w wanted a b is_at v) (subst (λ (o : Options). IsLegal (settings_of o) (b.views (part_at w a.at))) is_at.options v.turned.here.legal)
 
--- where a walk is behind a visit
+-- the position of a walk after a visit is a position that a walk can have
 position_next : (w : Walk) (later : Views) (at : Position) (next : Option Cursor) → (now : Views) → IsPosition w now at → ((c : Cursor) → next ≡ Some c → IsTrue (is_inside (settings_of w.options) (state_after (settings_of w.options) (later (part_at w at))) (After c))) → IsPosition w later (next_position w at next)
 position_next w later (InPart part cursor) (Some c) now position inside =
     (position.0, position.1, position.2, inside c refl)

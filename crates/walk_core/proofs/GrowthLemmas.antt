@@ -1,4 +1,4 @@
--- What was seen stays so, however the histories grow.
+-- What was seen stays true, however the histories grow.
 use Rattle.std.proofs.Common.{◌≡◌, ℕ, ◌<◌, inl, inr, refl, ap, sym, subst, ◌∙◌, arith, List, [], ◌∷◌, ◌++◌, length}
 use Rattle.std.specs.Prelude.{Bool, IsTrue, All, Some, take, slice_get, flat_map}
 use Rattle.std.proofs.lemmas.List.{take-append-le, get_or_append_left, length-append}
@@ -62,7 +62,7 @@ grown_answers w calls now later k moment walk grown m =
     let front : take moment (later (part_of_key w k)) ≡ take moment (now (part_of_key w k)) = ap (take moment) g.1 ∙ take-append-le moment (now (part_of_key w k)) g.0 (omega (arith, within)) in
     ap (λ (log : History). yields w.purpose w.program (content (settings_of w.options) k log)) front
 
--- a moment of some calls is one of more calls
+-- a moment of a list of calls is a moment of a longer list
 pub more_calls : (w : Walk) (calls more : List Span) (now : Views) (k : Datum) (moment : ℕ) → IsMoment w calls now k moment → IsMoment w (calls ++ more) now k moment
 more_calls w calls more now k moment m = record {
   call = m.call;
@@ -73,7 +73,7 @@ more_calls w calls more now k moment m = record {
   visit = m.visit;
 }
 
--- ---- what is gathered
+-- ---- what is collected
 
 marks_answer : (w : Walk) (calls : List Span) (now later : Views) (marks : List Mark) → IsWalk w → IsGrown w.options now later → All (λ m. IsMoment w calls now m.key m.moment) marks → flat_map (λ m. answers_at w now m.key m.moment) marks ≡ flat_map (λ m. answers_at w later m.key m.moment) marks
 marks_answer w calls now later [] walk grown moments = refl

@@ -1,4 +1,4 @@
--- What a deleting walk takes out, and that a walk covers each key once.
+-- What a deleting walk removes, and that a walk covers each key once.
 use Rattle.std.proofs.Common.{zero, suc, ◌≡◌, ◌≢◌, ℕ, ◌+◌, ◌<◌, ◌≤◌, ◌⊎◌, inl, inr, refl, ap, sym, subst, ◌∙◌, arith, List, [], ◌∷◌, ◌++◌, length}
 use Rattle.std.specs.Prelude.{Bool, true, false, not, ◌||◌, ◌==◌, if◌then◌else◌, nat_lt, IsFalse, All, Contains, map, Some, take, slice_get, get_or, filter}
 use Rattle.std.proofs.lemmas.Bool.{true≢false, and_from, or_left, or_right, eqb-true, eqb-false, eq-eqb, ltb-true, ltb-false}
@@ -36,9 +36,9 @@ use Rattle.walk_core.proofs.PositionLemmas.{done_next, covered_anew}
 use Rattle.walk_core.proofs.StepLemmas.{visit_entry}
 use Rattle.walk_core.proofs.GoesLemmas.{drifted_grown, goes_grown, goes_position, grown_legal, visit_grown}
 
--- ---- what a visit takes out
+-- ---- what a visit removes
 
--- one entry more
+-- the content after one more entry
 content_more : (o : Settings) (k : Datum) (past : History) (e : Entry) → content o k (past ++ e ∷ []) ≡ written o k (content o k past) e.act e.answer
 content_more o k past e = fold-append (λ os (d : Entry). written o k os d.act d.answer) [] past (e ∷ [])
 
@@ -77,7 +77,7 @@ nth_left [] ys i within = absurd (omega (arith, within))
 nth_left (x ∷ xs) ys zero within = refl
 nth_left (x ∷ xs) ys (suc i) within = nth_left xs ys i (omega (arith, within))
 
--- behind what was seen, and some entries of others, a session's own entry is the one that was made then
+-- after what was seen and some entries of others, a session's own entry is the one that was made then
 own_entry : (n : ℕ) (xs between : History) (d : Entry) (moment : ℕ) (e : Entry) → own n between ≡ [] → e.session ≡ n → length xs ≤ moment → slice_get ((xs ++ between) ++ d ∷ []) moment ≡ Some e → (moment ≡ length (xs ++ between)) × (e ≡ d)
 own_entry n (x ∷ xs) between d zero e others is long stands = absurd (omega (arith, long))
 own_entry n (x ∷ xs) between d (suc moment) e others is long stands =
@@ -100,7 +100,7 @@ own_entry n [] (b ∷ between) d (suc moment) e others is long stands =
     rest true none = absurd (cons_nil b (own n between) none)
     rest false none = none
 
--- and without one there is none
+-- if the session made no entry then, it has none there
 no_entry : (n : ℕ) (xs between : History) (moment : ℕ) (e : Entry) → own n between ≡ [] → e.session ≡ n → length xs ≤ moment → slice_get (xs ++ between) moment ≡ Some e → ⊥
 no_entry n xs between moment e others is long stands =
     let within = slice_get_within (xs ++ between) moment e stands in
@@ -115,7 +115,7 @@ said_in : Answer → Said
 said_in (Replied said) = said
 said_in (Refused refusal) = Nothing
 
--- what a visit is told from its entry
+-- what the entry of a visit says about the visit
 visit_is : (w : Walk) (k : Datum) (e : Entry) (scope : Scope) (wanted : ℕ) (said : Said) → IsVisit w k e → e ≡ visit_entry w scope wanted said → covers (settings_of w.options) scope (next_in said) k ≡ true
 unfolding scope_in said_in
 visit_is w k e scope wanted said v is =
@@ -123,7 +123,7 @@ visit_is w k e scope wanted said v is =
     let saids : v.said ≡ said = ap (λ (d : Entry). said_in d.answer) (sym v.made ∙ is) in
     subst (λ (s : Scope). covers (settings_of w.options) s (next_in said) k ≡ true) scopes (subst (λ (s : Said). covers (settings_of w.options) v.scope (next_in s) k ≡ true) saids v.covered)
 
--- ---- moments that were so before
+-- ---- moments that existed before
 
 front_moment : (w : Walk) (calls : List Span) (now later : Views) (more : History) (k : Datum) (moment : ℕ) → later (part_of_key w k) ≡ now (part_of_key w k) ++ more → moment < length (now (part_of_key w k)) → IsMoment w calls later k moment → IsMoment w calls now k moment
 front_moment w calls now later more k moment grown within m = record {
@@ -185,12 +185,12 @@ legal_there : (h : Home) (w : Walk) (wanted : ℕ → ℕ) (a b : Way) → IsAt 
 legal_there h w wanted a b is_at v =
     subst (IsLegal (settings_of w.options)) (entry_behind h w wanted a b is_at v) (subst (λ (o : Options). IsLegal (settings_of o) (b.views (part_at w a.at))) is_at.options v.turned.here.legal)
 
--- where a visit covers a key, and when
+-- a visit covers a key, and its moment is directly before the visit
 record IsHere (w : Walk) (at : Position) (past : History) (said : Said) (k : Datum) (moment : ℕ) : Type 0 where
   pub last : moment ≡ length past
   pub covers : is_covered w at (next_in said) k ≡ true
 
--- a moment behind a visit is one before it, or the visit's
+-- a moment after a visit is one from before it, or the visit's
 visit_moment : (h : Home) (w : Walk) (wanted : ℕ → ℕ) (calls : List Span) (before : Views) (a b : Way) (k : Datum) (moment : ℕ) → IsAt h w → IsWalk w → AreLegal w.options a.views → (v : Visits h w wanted a b) → IsMoment w (calls ++ span before b.views ∷ []) b.views k moment → IsMoment w (calls ++ span before a.views ∷ []) a.views k moment ⊎ IsHere w a.at (past_of h w (wanted (length a.gained)) a b v.said v.turned) v.said k moment
 visit_moment h w wanted calls before a b k moment is_at walk legal v m =
     let p = part_of_key w k in
@@ -330,7 +330,7 @@ pub stops_once : (h : Home) (w : Walk) (wanted : ℕ → ℕ) (calls : List Span
 stops_once h w wanted calls a at gained now is_at walk legal position o (last, way, drifted) =
     drifts_once h w calls a.views last now (is_done w at) is_at walk drifted (goes_once h w wanted calls a (record { views = last; at = at; gained = gained }) is_at walk legal position o way)
 
--- ---- what a walk gathers, and what it takes out
+-- ---- what a walk collects, and what it removes
 
 marked_at : (w : Walk) (calls : List Span) (now : Views) (marks : List Mark) (k : Datum) → All (λ m. IsMoment w calls now m.key m.moment) marks → Contains (map (λ m. m.key) marks) k → (moment : ℕ) × Contains marks (record { key = k; moment = moment }) × IsMoment w calls now k moment
 marked_at w calls now [] k moments (n, within, is) = absurd (omega (arith, within))
@@ -351,7 +351,7 @@ moments_marked w calls now done answers g o k moment m = of (g.silent k (o.cover
         inl (subst (λ (n : ℕ). Contains g.marks (record { key = k; moment = n })) (o.once k there.0 moment there.2 m) there.1)
     of (inr (other, is, none)) = inr (subst (λ (n : ℕ). answers_at w now k n ≡ []) (o.once k other moment is m) none)
 
--- where nothing passes, nothing is taken out
+-- if no object passes a test, none is removed
 none_out : (test : Datum → Bool) (ts : List Datum) → filter test ts ≡ [] → filter (λ t. not (test t)) ts ≡ ts
 none_out test [] none = refl
 none_out test (t ∷ ts) none = of (λ h. none_out test ts h) (test t) refl
@@ -456,7 +456,7 @@ pub others_quiet : (w : Walk) (k : Datum) (between : History) → own w.number b
 others_quiet w k between none i d within v =
     no_entry w.number [] between i (get_or between i d) none (ap (λ (e : Entry). e.session) v.made) (omega arith) (slice_get-get_or between i d within)
 
--- nor is a turn of the session that isn't a visit
+-- a turn of the session that isn't a visit is no visit of the walk
 pub turned_quiet : (h : Home) (w : Walk) (old new : History) (act : Act) (said : Said) → IsAt h w → ((purpose : Purpose) (p : Program) (scope : Scope) (wanted : ℕ) → act ≢ Visit purpose p scope wanted) → TurnedAt h old act (Some (Replied said)) new → (more : History) × (new ≡ old ++ more) × ((k : Datum) → All (λ e. IsVisit w k e → ⊥) more)
 turned_quiet h w old new act said is_at other t =
     let entry : Entry = record { session = h.number; act = act; answer = Replied said } in (

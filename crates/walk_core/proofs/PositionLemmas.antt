@@ -1,4 +1,4 @@
--- What a visit adds to the keys that a walk has done, and where the walk is behind it.
+-- What a visit adds to the keys that a walk has done, and where the walk is after it.
 use Rattle.std.proofs.Common.{zero, suc, ◌≡◌, ◌≢◌, ℕ, ◌+◌, ◌/◌, ◌<◌, ◌≤◌, ◌⊎◌, inl, inr, refl, ap, sym, subst, ◌∙◌, arith, List, [], ◌∷◌, ◌++◌, length}
 use Rattle.std.specs.Prelude.{Bool, true, false, not, ◌&&◌, ◌||◌, ◌==◌, if◌then◌else◌, nat_lt, nat_le, get_or, take, Option, Some, None}
 use Rattle.std.specs.List.{IsDistinct, AllByRecursion}
@@ -21,14 +21,14 @@ use Rattle.part_core.specs.Acts.Cursor.{Class, Behind}
 use Rattle.part_core.specs.Settings.{is_ordered, part_of, class_at}
 use Rattle.part_core.specs.Covers.{covers, is_up_to}
 use Rattle.part_core.specs.Laws.{LeadsTo}
-use Rattle.part_core.specs.Visits.{is_behind}
+use Rattle.part_core.specs.Visits.{is_beyond}
 use Rattle.part_core.proofs.KeyLemmas.{by_test, same_keys, same_is, same_from}
 use Rattle.tables.specs.Options.{settings_of}
 use Rattle.tables.specs.Turns.{Views}
 use Rattle.walk_core.specs.Walk.{Walk, Position, IsWalk, IsPosition, IsPlan, scope_at, scope_from, next_position, named_at, named_count, is_among, is_named_below, is_in_parts, is_passed, is_all, is_done, is_covered}
 use Rattle.walk_core.specs.Walk.Position.{InPart, AtNamed, Over}
 
--- ---- a cursor and what a visit behind it covers
+-- ---- a cursor, and what a visit after it covers
 
 or_true : (b : Bool) → (b || true) ≡ true
 or_true true = refl
@@ -39,8 +39,8 @@ less_is Less h = refl
 less_is Equal h = cc
 less_is Greater h = cc
 
--- what is behind a key is behind all that the key is behind
-behind_further : (j k l : Datum) → is_behind j k ≡ true → is_behind k l ≡ true → is_behind j l ≡ true
+-- a key that is after another is after all keys that the other is after
+behind_further : (j k l : Datum) → is_beyond j k ≡ true → is_beyond k l ≡ true → is_beyond j l ≡ true
 behind_further j k l low high =
     ap is_lt (datum_cmp_total.trans j k l (less_is (datum_cmp j k) low) (less_is (datum_cmp k l) high))
 
@@ -58,7 +58,7 @@ class_more x class =
 first_class : (x : ℕ) → nat_lt x 1 ≡ (x == 0)
 first_class x = class_more x 0 ∙ ap (λ b. b || (x == 0)) (le-ltb x 0 (omega arith))
 
--- where a walk goes on at a cursor, the visit covered what the cursor leaves behind more
+-- if a walk goes on at a cursor, the visit covered the keys that the cursor passes in addition
 passed_more : (o : Settings) (base : ℕ) (cursor : Option Cursor) (next : Cursor) (k : Datum) → LeadsTo o base (scope_from cursor) (Some next) → is_passed o (Some next) k ≡ (is_passed o cursor k || covers o (scope_from cursor) (Some next) k)
 passed_more o base None next k leads = of (is_ordered o.kind) refl
   where
@@ -83,14 +83,14 @@ passed_more o base (Some (Class other class)) next k leads = of (nat_lt (class +
 passed_more o base (Some (Behind j)) next k (inl none) = cc
 passed_more o base (Some (Behind j)) next k (inr (l, is, further)) =
     let same : next ≡ Behind l = cc in
-    subst (λ (c : Cursor). is_passed o (Some c) k ≡ (not (is_behind j k) || (is_behind j k && is_up_to o (Some c) k))) (sym same)
-    (by_test (is_behind j k) _
+    subst (λ (c : Cursor). is_passed o (Some c) k ≡ (not (is_beyond j k) || (is_beyond j k && is_up_to o (Some c) k))) (sym same)
+    (by_test (is_beyond j k) _
     (λ behind. rw behind refl)
-    (λ before. by_test (is_behind l k) _
+    (λ before. by_test (is_beyond l k) _
     (λ past. absurd (true≢false (sym (behind_further j l k further past) ∙ before)))
     (λ short. rw (before, short) refl)))
 
--- where a walk is at the end of a part, the visit covered all that was left of it
+-- if a walk has reached the end of a part, the visit covered all that was left of it
 passed_all : (o : Settings) (base : ℕ) (cursor : Option Cursor) (k : Datum) → LeadsTo o base (scope_from cursor) None → (is_passed o cursor k || covers o (scope_from cursor) None k) ≡ true
 passed_all o base None k leads = refl
 passed_all o base (Some (Class other class)) k leads =
@@ -100,7 +100,7 @@ passed_all o base (Some (Class other class)) k leads =
   where
     least : other ≤ class + 1 → class_at o other k < class + 1
     least few = let some : 0 < other = omega (arith, leads.0) in let below : class_at o other k < other = mod_below (key_hash k / o.parts) other some in omega (arith, few, below)
-passed_all o base (Some (Behind j)) k leads = either (is_behind j k)
+passed_all o base (Some (Behind j)) k leads = either (is_beyond j k)
   where
     either : (b : Bool) → (not b || (b && true)) ≡ true
     either true = refl
@@ -108,7 +108,7 @@ passed_all o base (Some (Behind j)) k leads = either (is_behind j k)
 
 -- ---- keys that are done
 
--- whether the part of a key is one, and whether it is below that
+-- if the part of a key is `part`, it is not below `part`
 same_below : (x part : ℕ) → x == part ≡ true → nat_lt x part ≡ false
 same_below x part same = let is = eqb-true x part same in le-ltb x part (omega (arith, is))
 
@@ -119,7 +119,7 @@ other_below x part other = class_more x part ∙ ap (λ b. nat_lt x part || b) o
     or_false true = refl
     or_false false = refl
 
--- a part is done with its last cursor
+-- a part whose remaining keys are passed or covered is done
 part_done : (from part x : ℕ) (passed covered : Bool) → from ≤ part → (passed || covered) ≡ true → (nat_le from x && nat_lt x (part + 1)) ≡ (((nat_le from x && nat_lt x part) || ((x == part) && passed)) || ((x == part) && covered))
 part_done from part x passed covered low all =
     by_test (x == part) _
@@ -133,7 +133,7 @@ part_done from part x passed covered low all =
     falses true = refl
     falses false = refl
 
--- a cursor in a part moves on
+-- the keys that are done when the cursor in a part moves on
 cursor_done : (from part x : ℕ) (later passed covered : Bool) → later ≡ (passed || covered) → ((nat_le from x && nat_lt x part) || ((x == part) && later)) ≡ (((nat_le from x && nat_lt x part) || ((x == part) && passed)) || ((x == part) && covered))
 cursor_done from part x later passed covered is =
     by_test (x == part) _
@@ -160,7 +160,7 @@ among_more (i ∷ ks) k j = ap (λ b. is_same k i || b) (among_more ks k j) ∙ 
     or_assoc true b c = refl
     or_assoc false b c = refl
 
--- one more named key is done
+-- the keys that are done when one more named key is done
 named_more : (o : Settings) (plan : Option (List Datum)) (n : ℕ) (k : Datum) → n < named_count plan → is_named_below plan (n + 1) k ≡ (is_named_below plan n k || ((part_of o k == part_of o (named_at plan n)) && is_same (named_at plan n) k))
 named_more o None n k within = absurd (omega (arith, within))
 named_more o (Some ks) n k within =
@@ -187,7 +187,7 @@ all_named : (w : Walk) (plan : Option (List Datum)) (n : ℕ) (k : Datum) → 0 
 all_named w None n k some most = absurd (omega (arith, some))
 all_named w (Some ks) n k some most = ap (λ js. is_among js k) (sym (take_all ks n most))
 
--- the keys that are done behind a visit are those that were, and those that it covers
+-- the keys that are done after a visit are those that were done before, and those that it covers
 pub done_next : (w : Walk) (now : Views) (base : ℕ) (at : Position) (next : Option Cursor) (k : Datum) → IsPosition w now at → at ≢ Over → LeadsTo (settings_of w.options) base (scope_at w at) next → is_done w (next_position w at next) k ≡ (is_done w at k || is_covered w at next k)
 done_next w now base (InPart part cursor) (Some next) k position more leads =
     let o = settings_of w.options in
@@ -215,7 +215,7 @@ done_next w now base Over next k position more leads = absurd (more refl)
 
 -- ---- no key is done twice
 
--- a named key isn't one of those before
+-- a named key isn't equal to one of those before it
 not_among : (ks : List Datum) (n : ℕ) (k : Datum) → IsDistinct is_same ks → n < length ks → is_same (get_or ks n nil) k ≡ true → is_among (take n ks) k ≡ false
 not_among [] n k distinct within same = absurd (omega (arith, within))
 not_among (j ∷ ks) zero k distinct within same = refl
@@ -232,13 +232,13 @@ not_among (j ∷ ks) (suc n) k distinct within same =
     equal : is_same k j ≡ true → is_same j (get_or ks n nil) ≡ true
     equal first = same_from j (get_or ks n nil) (sym (same_is k j first) ∙ sym (same_is (get_or ks n nil) k same))
 
--- a cursor covers nothing that it leaves behind
+-- a visit from a cursor covers no key that the cursor has passed
 not_passed : (o : Settings) (cursor next : Option Cursor) (k : Datum) → covers o (scope_from cursor) next k ≡ true → is_passed o cursor k ≡ false
 not_passed o None next k covered = refl
 not_passed o (Some (Class base class)) next k covered = same_below (class_at o base k) class covered
-not_passed o (Some (Behind j)) next k covered = rw (and_parts (is_behind j k) (is_up_to o next k) covered).0 refl
+not_passed o (Some (Behind j)) next k covered = rw (and_parts (is_beyond j k) (is_up_to o next k) covered).0 refl
 
--- a visit covers no key that is done
+-- a visit covers no key that is done already
 pub covered_anew : (w : Walk) (now : Views) (at : Position) (next : Option Cursor) (k : Datum) → IsWalk w → IsPosition w now at → at ≢ Over → is_covered w at next k ≡ true → is_done w at k ≡ false
 covered_anew w now (InPart part cursor) next k walk position more covered =
     let o = settings_of w.options in

@@ -1,4 +1,4 @@
--- What follows for objects: one that stayed is answered once, nothing is invented, and a set answers once for a key.
+-- What follows for objects: one that stayed is answered once, every answer has an object, and a set has one answer per key.
 use Rattle.std.proofs.Common.{zero, suc, ◌≡◌, ◌≢◌, ℕ, ◌≤◌, ◌⊎◌, inl, inr, refl, ap, sym, subst, ◌∙◌, arith, List, [], ◌∷◌, ◌++◌, length}
 use Rattle.std.specs.Prelude.{Bool, true, false, if◌then◌else◌, IsTrue, All, AllPairs, Contains, Option, Some, None, take, drop, map, flat_map, filter, filter_map}
 use Rattle.std.specs.Option.{option_map_or}
@@ -44,7 +44,7 @@ given_as Answers p ts = refl
 given_as Counts p ts = passing p ts
 given_as Deletes p ts = passing p ts
 
--- nothing is given where nothing is answered
+-- nothing is given for an object without an answer
 nothing_given : (purpose : Purpose) (p : Program) (t : Datum) → answer_of p t ≡ None → given_for purpose p t ≡ None
 nothing_given Answers p t none = none
 nothing_given Counts p t none =
@@ -63,7 +63,7 @@ given_among h (u ∷ ts) t a given (suc n, within, is) =
     of later None here = rw here later
     of later (Some b) here = rw here (suc later.0, omega (arith, later.1), later.2)
 
--- what is given for an object stands among what is given at least as often as the object
+-- what is given for an object occurs among what is given at least as many times as the object
 times_given : (h : Datum → Option Datum) (t a : Datum) (ts : List Datum) → h t ≡ Some a → times t ts ≤ times a (filter_map h ts)
 times_given h t a [] given = omega arith
 times_given h t a (u ∷ ts) given =
@@ -79,7 +79,7 @@ times_given h t a (u ∷ ts) given =
         rw here
         (by_test (is_same a b) (times t ts ≤ times a (b ∷ filter_map h ts)) (λ same. rw same (omega (arith, fewer))) (λ apart. rw apart fewer))
 
--- an object for which this is given
+-- there is an object for which this is given
 record Giver (h : Datum → Option Datum) (ts : List Datum) (a : Datum) : Type 0 where
   pub object : Datum
   pub there : Contains ts object
@@ -103,7 +103,7 @@ giver h (t ∷ ts) a there = of (λ c. giver h ts a c) (h t) refl
 
 -- ---- marks
 
--- one of some marks has this answer
+-- one of the marks has this answer
 record MarkOf (f : Mark → List Datum) (P : Mark → Type 0) (a : Datum) : Type 0 where
   pub mark : Mark
   pub holds : P mark
@@ -118,7 +118,7 @@ mark_of f P (m ∷ marks) a all there =
     of rest (inl here) = record { mark = m; holds = All-head P m marks all; there = here }
     of rest (inr later) = rest later
 
--- marks, told from one of them on
+-- marks, split at the one with a given key
 record Split (P : Mark → Type 0) (marks : List Mark) (k : Datum) : Type 0 where
   pub moment : ℕ
   pub front : List Mark
@@ -134,7 +134,7 @@ first_apart m marks h n d within = h 0 (suc n) d (omega arith) (omega (arith, wi
 rest_apart : (m : Mark) (marks : List Mark) → AllPairs (λ j l. j.key ≢ l.key) (m ∷ marks) → AllPairs (λ j l. j.key ≢ l.key) marks
 rest_apart m marks h i j d lt within = h (suc i) (suc j) d (omega (arith, lt)) (omega (arith, within))
 
--- a key of marks isn't one that all of them differ from
+-- a key of some marks isn't the key of a mark that differs from all of them
 differs : (m : Mark) (marks : List Mark) (k : Datum) → All (λ l. m.key ≢ l.key) marks → Contains (map (λ l. l.key) marks) k → m.key ≢ k
 differs m [] k all (n, within, is) same = omega (arith, within)
 differs m (l ∷ marks) k all (zero, within, is) same = All-head (λ j. m.key ≢ j.key) l marks all (same ∙ sym is)
@@ -165,13 +165,13 @@ split P (m ∷ marks) k all apart (suc n, within, is) =
       behind = later.behind;
     }
 
--- ---- who stayed
+-- ---- objects that stayed
 
 answered_among : (w : Walk) (now : Views) (k t a : Datum) (moment : ℕ) → given_for w.purpose w.program t ≡ Some a → Contains (content_at w now k moment) t → Contains (answers_at w now k moment) a
 answered_among w now k t a moment given there =
     subst (λ (xs : List Datum). Contains xs a) (sym (given_as w.purpose w.program (content_at w now k moment))) (given_among (given_for w.purpose w.program) (content_at w now k moment) t a given there)
 
--- and stands among the answers at a moment at least as often as it was there
+-- what is given for an object occurs among the answers at a moment at least as many times as the object was there
 each_answered : (w : Walk) (now : Views) (k t a : Datum) (moment : ℕ) → given_for w.purpose w.program t ≡ Some a → times t (content_at w now k moment) ≤ times a (answers_at w now k moment)
 each_answered w now k t a moment given =
     subst (λ (xs : List Datum). times t (content_at w now k moment) ≤ times a xs) (sym (given_as w.purpose w.program (content_at w now k moment)))
@@ -211,7 +211,7 @@ stayed_answered w calls now answers t a ans object inside given stayed =
     of (inr none) =
         absurd (none-some a (sym (nothing_given w.purpose w.program t (none t object refl)) ∙ given))
 
--- ---- nothing is invented
+-- ---- every answer has an object
 
 pub answered_for : (w : Walk) (calls : List Span) (now : Views) (done : Datum → Bool) (answers : List Datum) (a : Datum) → Gathers w calls now done answers → Contains answers a → IsAnsweredFor w calls now a
 answered_for w calls now done answers a g there =

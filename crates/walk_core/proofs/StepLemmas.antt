@@ -52,7 +52,7 @@ pub all_front : {X : Type 0} (P : X → Type 0) (xs ys : List X) → All P (xs +
 all_front P xs ys all k d within =
     subst P (get_or_append_left xs ys d k within) (all k d (let long = length-append xs ys in omega (arith, long, within)))
 
--- what gives nothing where a test fails
+-- elements that fail a test and yield nothing can be left out
 flat_passing : {X Y : Type 0} (f : X → List Y) (test : X → Bool) (xs : List X) → ((x : X) → test x ≡ false → f x ≡ []) → flat_map f xs ≡ flat_map f (filter test xs)
 flat_passing f test [] none = refl
 flat_passing f test (x ∷ xs) none =
@@ -75,7 +75,7 @@ no_yield Answers p = refl
 no_yield Counts p = refl
 no_yield Deletes p = refl
 
--- ---- what is seen behind a turn
+-- ---- what is seen after a turn
 
 pub turned_grown : (h : Home) (o : Options) (part : ℕ) (act : Act) (answer : Option Answer) (v w : Views) → h.options ≡ o → AreLegal o v → Turned h part act answer v w → IsGrown o v w
 turned_grown h o part act answer v w same legal t k inside =
@@ -119,7 +119,7 @@ later_call w calls before now later now_is k moment longer m = of (Contains-push
           visit = m.visit;
         }
 
--- what was made in one call was made in one that takes longer
+-- what was collected in one call was collected in one that takes longer
 pub wider_gathers : (w : Walk) (before after first last now : Views) (done : Datum → Bool) (xs : List Datum) → ((k : Datum) → length (first (part_of_key w k)) ≤ length (before (part_of_key w k))) → ((k : Datum) → length (after (part_of_key w k)) ≤ length (last (part_of_key w k))) → Gathers w (span before after ∷ []) now done xs → Gathers w (span first last ∷ []) now done xs
 wider_gathers w before after first last now done xs sooner longer g = record {
   marks = g.marks;
@@ -150,7 +150,7 @@ wider_gathers w before after first last now done xs sooner longer g = record {
     of k (inl marked) = inl marked
     of k (inr (moment, is, none)) = inr (moment, wider k moment is, none)
 
--- the calls as they are later gather the same
+-- the calls as they are later collect the same
 pub later_gathers : (w : Walk) (calls : List Span) (before now later : Views) (now_is : Views) (done : Datum → Bool) (xs : List Datum) → ((k : Datum) → length (now (part_of_key w k)) ≤ length (later (part_of_key w k))) → Gathers w (calls ++ span before now ∷ []) now_is done xs → Gathers w (calls ++ span before later ∷ []) now_is done xs
 later_gathers w calls before now later now_is done xs longer g = record {
   marks = g.marks;
@@ -166,7 +166,7 @@ later_gathers w calls before now later now_is done xs longer g = record {
     of k (inr (moment, is, none)) =
         inr (moment, later_call w calls before now later now_is k moment (longer k) is, none)
 
--- a key that a visit covers has its moment directly before it
+-- a key that a visit covers has its moment directly before the visit
 new_moment : (w : Walk) (calls : List Span) (before later : Views) (past : History) (scope : Scope) (wanted : ℕ) (said : Said) (part : ℕ) (k : Datum) → part_of_key w k ≡ part → length (before part) ≤ length past → later part ≡ past ++ visit_entry w scope wanted said ∷ [] → IsTrue (covers (settings_of w.options) scope (next_in said) k) → IsMoment w (calls ++ span before later ∷ []) later k (length past)
 new_moment w calls before later past scope wanted said part k at begins grown covered = record {
   call = span before later;
@@ -188,7 +188,7 @@ new_answers : (w : Walk) (later : Views) (past : History) (e : Entry) (part : �
 new_answers w later past e part k at grown =
     ap (λ (log : History). yields w.purpose w.program (content (settings_of w.options) k log)) (ap (λ (q : ℕ). take (length past) (later q)) at ∙ ap (take (length past)) grown ∙ take-append_seam past (e ∷ []))
 
--- what is gathered before a visit, and what the visit answers for the keys that it covers
+-- what is collected before a visit, together with the visit's answers for the keys that it covers
 pub gathers_on : (w : Walk) (calls : List Span) (before later : Views) (part : ℕ) (past : History) (scope : Scope) (wanted : ℕ) (said : Said) (done done_later : Datum → Bool) (xs ys : List Datum) →
     All (λ e. IsPlacedAt (settings_of w.options) part e.act) past →
     length (before part) ≤ length past →

@@ -26,7 +26,7 @@ use Rattle.walk_core.specs.Goes.{way, IsAt, Visits, Drifted}
 use Rattle.walk_core.specs.Moments.{AreLegal}
 use Rattle.walk_core.proofs.StepLemmas.{visit_entry}
 
--- a turn that was answered is a visit, and what it says is what it found
+-- a turn that was not refused is a visit, and returns what the visit found
 pub turn_visits : (h : Home) (w : Walk) (wanted : ℕ → ℕ) (at : Position) (gained : List Datum) (v u : Views) (said : Said) → IsAt h w → Turned h (part_at w at) (Visit w.purpose w.program (scope_at w at) (wanted (length gained))) (Some (Replied said)) v u
     → (found : List Datum) × Visits h w wanted (way v at gained) (way u (next_position w at (next_in said)) (gained ++ found)) × (said ≡ said_by_visit w.purpose found (next_in said))
 turn_visits h w wanted at gained v u said is_at t =
@@ -45,13 +45,13 @@ replies_inside : (o : Settings) (s : PartState) (n : ℕ) (purpose : Purpose) (p
 unfolding reply_of
 replies_inside o s n purpose p scope wanted inside = rw inside refl
 
--- where a walk can go on, its visit looks at what is the part's
+-- the scope of a walk's next visit is inside its part
 scope_inside : (w : Walk) (now : Views) (at : Position) → at ≢ Over → IsPosition w now at → IsTrue (is_inside (settings_of w.options) (state_after (settings_of w.options) (now (part_at w at))) (scope_at w at))
 scope_inside w now (InPart part cursor) more position = position.3
 scope_inside w now (AtNamed n) more position = refl
 scope_inside w now Over more position = refl
 
--- where a walk can go on, its visit isn't refused
+-- the next visit of a walk isn't refused
 pub never_outside : (h : Home) (w : Walk) (at : Position) (wanted : ℕ) (v u : Views) (refusal : Refusal) → IsAt h w → IsWalk w → at ≢ Over → IsPosition w v at → Turned h (part_at w at) (Visit w.purpose w.program (scope_at w at) wanted) (Some (Refused refusal)) v u → ⊥
 never_outside h w at wanted v u refusal is_at walk more position t =
     let o = settings_of w.options in
@@ -61,7 +61,7 @@ never_outside h w at wanted v u refusal is_at walk more position t =
     let right : Refused refusal ≡ reply_of o (state_after o (v part ++ t.here.between)) h.number (Visit w.purpose w.program (scope_at w at) wanted) = subst (λ (p : Options). Refused refusal ≡ reply_of (settings_of p) (state_after (settings_of p) (v part ++ t.here.between)) h.number (Visit w.purpose w.program (scope_at w at) wanted)) is_at.options (turned_right h (v part) (u part) _ (Refused refusal) t.here) in
     false≢true (sym (ap is_refused right ∙ replies_inside o (state_after o (v part ++ t.here.between)) h.number w.purpose w.program (scope_at w at) wanted inside))
 
--- a turn that was refused for want of memory leaves no entry of the session
+-- a turn that ran out of memory leaves no entry of the session
 pub turned_drifts : (h : Home) (part : ℕ) (act : Act) (v u : Views) → AreLegal h.options v → Turned h part act None v u → Drifted h v u
 turned_drifts h part act v u legal t k inside =
     by_test (k == part) _

@@ -1,4 +1,4 @@
--- How a walk goes: visit after visit, each one turn of the session at a part.
+-- The course of a walk: visit after visit, each one turn of the session at a part.
 use Rattle.std.specs.Prelude.{ℕ, ◌≡◌, ◌≢◌, ◌<◌, ◌-◌, ◌++◌, Some, List, length}
 use Rattle.term_core.specs.Datum.{Datum}
 use Rattle.part_core.specs.Acts.{Said, History, next_in}
@@ -11,8 +11,7 @@ use Rattle.tables.specs.Turns.{Home, Views, IsBetween, Turned}
 use Rattle.walk_core.specs.Walk.{Walk, Position, part_at, scope_at, next_position}
 use Rattle.walk_core.specs.Walk.Position.{Over}
 
--- a walk under way: what the session sees, how far it has come, and the answers so far, or the objects counted or
--- deleted
+-- a walk in progress: what the session sees, the position of the walk, and the answers so far, or the objects counted or deleted
 pub record Way : Type 0 where
   pub views : Views
   pub at : Position
@@ -21,19 +20,19 @@ pub record Way : Type 0 where
 abbrev pub way : Views → Position → List Datum → Way
 way views at gained = record { views = views; at = at; gained = gained }
 
--- the session is where the walk is: at a table with these options, and with this number
+-- the session is that of the walk: at a table with the walk's options, and with its number
 pub record IsAt (h : Home) (w : Walk) : Type 0 where
   pub options : h.options ≡ w.options
   pub number : h.number ≡ w.number
 
--- what a part did before a visit: what was seen of it, and the entries of others that came between
+-- the history of a part before a visit: what was seen of it, and the entries of others that came between
 abbrev pub past_of : (h : Home) (w : Walk) (wanted : ℕ) (a b : Way) (said : Said)
     → Turned h (part_at w a.at) (Visit w.purpose w.program (scope_at w a.at) wanted) (Some (Replied said)) a.views b.views
     → History
 past_of h w wanted a b said turned = a.views (part_at w a.at) ++ turned.here.between
 
--- One visit: one turn at the part where the walk is, by its purpose and its code. The walk goes on where the answer
--- says, and gains what the query answers on what the visit looked at.
+-- One visit: one turn at the part where the walk is, with its purpose and its code. The walk goes on where the answer
+-- says, and gains what the query yields for what the visit looked at.
 pub record Visits (h : Home) (w : Walk) (wanted : ℕ → ℕ) (a b : Way) : Type 0 where
   pub said : Said
   pub turned : Turned h (part_at w a.at) (Visit w.purpose w.program (scope_at w a.at) (wanted (length a.gained)))
@@ -43,26 +42,26 @@ pub record Visits (h : Home) (w : Walk) (wanted : ℕ → ℕ) (a b : Way) : Typ
       (state_after (settings_of w.options) (past_of h w (wanted (length a.gained)) a b said turned))
       w.purpose w.program (scope_at w a.at) (wanted (length a.gained))
 
--- any number of visits, one behind the other; `wanted` says how many answers a visit wants, by how many there are
+-- any number of visits, one after the other; `wanted` gives the target of a visit, depending on the number of answers so far
 pub data Goes (h : Home) (w : Walk) (wanted : ℕ → ℕ) (a : Way) : Way → Type 0 where
   stays : Goes h w wanted a a
   goes : {b c : Way} → Goes h w wanted a b → b.at ≢ Over → Visits h w wanted b c → Goes h w wanted a c
 
--- a walk in pieces wants what is left up to its limit
+-- the target of a walk in pieces: what is missing to its limit
 abbrev pub up_to : ℕ → ℕ → ℕ
 up_to limit count = limit - count
 
--- a walk that counts wants all that can be counted
+-- the target of a walk that counts: the greatest number that is counted
 abbrev pub whole : ℕ → ℕ
 whole count = most_counted
 
--- Others may have made entries at the parts, and the session none.
+-- Other sessions may have made entries at the parts, and the session made none.
 abbrev pub Drifted : Home → Views → Views → Type 0
 Drifted h v w =
     (part : ℕ) → part < h.options.parts
     → (between : History) × IsBetween h between × (w part ≡ v part ++ between) × IsLegal (settings_of h.options) (w part)
 
--- visits, and then one that was refused for want of memory, or none
+-- visits, and then one that ran out of memory, or none
 abbrev pub Stops : Home → Walk → (ℕ → ℕ) → Way → Position → List Datum → Views → Type 0
 Stops h w wanted a at gained now =
     (last : Views) × Goes h w wanted a (way last at gained) × Drifted h last now

@@ -11,11 +11,11 @@ use Rattle.walk_core.specs.Walk.Position.{Over}
 use Rattle.walk_core.specs.Goes.{Way, way, IsAt, Visits, Goes, Stops}
 use Rattle.walk_core.specs.Moments.{Span, span, IsSoFar, IsAnswer, IsGrown, AreLegal, ArePlaced}
 
--- a walk that begins has gathered nothing
+-- a walk that begins has collected nothing
 abbrev pub WalksBegin : Type 0
 WalksBegin = (w : Walk) (now : Views) → IsWalk w → IsSoFar w [] [] now (start_of w) []
 
--- a turn that was answered is a visit of the walk, and what it says is what the walk gains by it
+-- a turn that was not refused is a visit of the walk, and returns what the walk gains by it
 abbrev pub TurnsAreVisits : Type 0
 TurnsAreVisits =
     (h : Home) (w : Walk) (wanted : ℕ → ℕ) (at : Position) (gained : List Datum) (v u : Views) (said : Said)
@@ -25,14 +25,14 @@ TurnsAreVisits =
     × Visits h w wanted (way v at gained) (way u (next_position w at (next_in said)) (gained ++ found))
     × (said ≡ said_by_visit w.purpose found (next_in said))
 
--- where a walk can go on, its visit isn't refused
+-- the next visit of a walk isn't refused
 abbrev pub VisitsAreAnswered : Type 0
 VisitsAreAnswered =
     (h : Home) (w : Walk) (at : Position) (wanted : ℕ) (v u : Views) (refusal : Refusal)
     → IsAt h w → IsWalk w → at ≢ Over → IsPosition w v at
     → Turned h (part_at w at) (Visit w.purpose w.program (scope_at w at) wanted) (Some (Refused refusal)) v u → ⊥
 
--- Visits carry a walk on: what was gathered before them and what they gain is gathered behind them, for the keys that
+-- Visits continue a walk: what was collected before them and what they gain is collected after them, for the keys that
 -- are done then.
 abbrev pub WalksGoOn : Type 0
 WalksGoOn =
@@ -41,20 +41,20 @@ WalksGoOn =
     → IsSoFar w calls given a.views a.at a.gained → Goes h w wanted a b
     → IsSoFar w (calls ++ span a.views b.views ∷ []) given b.views b.at b.gained
 
--- what others do, and other calls of the session, changes nothing of a walk so far
+-- what other sessions do, and other calls of the session, doesn't change a walk so far
 abbrev pub WalksOutlastOthers : Type 0
 WalksOutlastOthers =
     (w : Walk) (calls : List Span) (given : List Datum) (now later : Views) (at : Position) (kept : List Datum)
     → IsWalk w → IsGrown w.options now later → IsSoFar w calls given now at kept
     → IsSoFar w calls given later at kept
 
--- at its end, with nothing kept, what a walk gave out is its answer
+-- at its end, with nothing kept, what a walk returned is its answer
 abbrev pub WalksEnd : Type 0
 WalksEnd =
     (w : Walk) (calls : List Span) (given : List Datum) (now : Views)
     → IsWalk w → IsSoFar w calls given now Over [] → IsAnswer w calls now given
 
--- visits carry a walk on also where the one behind them was refused for want of memory
+-- visits continue a walk also if the one after them ran out of memory
 abbrev pub WalksStop : Type 0
 WalksStop =
     (h : Home) (w : Walk) (wanted : ℕ → ℕ) (calls : List Span) (given : List Datum) (a : Way) (at : Position)

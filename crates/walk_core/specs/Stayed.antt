@@ -1,4 +1,4 @@
--- What follows for objects: one that stayed is answered once, nothing is invented, and a set answers once for a key.
+-- What follows for objects: one that stayed is answered once, every answer has an object, and a set has one answer per key.
 use Rattle.std.specs.Prelude.{ℕ, ◌≡◌, ◌≢◌, ◌≤◌, ◌++◌, if◌then◌else◌, Bool, IsTrue, All, Contains, Option, Some, None, filter, flat_map, List, length}
 use Rattle.term_core.specs.Datum.{Datum}
 use Rattle.term_operand.specs.Order.{is_same}
@@ -14,18 +14,18 @@ use Rattle.walk_core.specs.Walk.{Walk, IsWalk, is_in_parts}
 use Rattle.walk_core.specs.Moments.{Span, IsMoment, Mark, Gathers, IsAnswer, AreLegal, answers_at}
 use Rattle.walk_core.specs.Once.{content_at}
 
--- what a walk gives for one object: the query's answer, or the object, where it is counted or deleted
+-- what a walk gives for one object: the query's answer, or the object itself if it is counted or deleted
 abbrev pub given_for : Purpose → Program → Datum → Option Datum
 given_for Answers p t = answer_of p t
 given_for Counts p t = if is_true p t then Some t else None
 given_for Deletes p t = if is_true p t then Some t else None
 
--- how often an object stands among others
+-- how many times an object occurs in a list
 abbrev pub times : Datum → List Datum → ℕ
 times t ts = length (filter (is_same t) ts)
 
--- An object is answered once: among the answers on its key's objects at one moment, at which it was there, at least as
--- often as it stood there; the answers before these and behind them are those of other keys.
+-- An object is answered once: among the answers for its key's objects at one moment, at which it was there, at least as
+-- many times as it occurred there. The answers before and after these are those of other keys.
 pub record IsAnsweredOnce (w : Walk) (calls : List Span) (now : Views) (answers : List Datum) (t a : Datum) : Type 0 where
   pub moment : ℕ
   pub made : IsMoment w calls now (key_of (settings_of w.options) t) moment
@@ -62,13 +62,13 @@ pub record IsAnsweredFor (w : Walk) (calls : List Span) (now : Views) (a : Datum
   pub there : Contains (content_at w now key moment) object
   pub given : given_for w.purpose w.program object ≡ Some a
 
--- nothing is answered for an object that was never there
+-- there is no answer for an object that was never there
 abbrev pub NothingIsInvented : Type 0
 NothingIsInvented =
     (w : Walk) (calls : List Span) (now : Views) (done : Datum → Bool) (answers : List Datum) (a : Datum)
     → Gathers w calls now done answers → Contains answers a → IsAnsweredFor w calls now a
 
--- what stands in the content of a key are objects with this key, in a set at most one
+-- the content of a key consists of objects with this key, in a set at most one
 pub record IsContentOf (w : Walk) (k : Datum) (ts : List Datum) : Type 0 where
   pub objects : All (λ t. IsTrue (is_object (settings_of w.options) t) × (key_of (settings_of w.options) t ≡ k)) ts
   pub single : IsTrue (is_set w.options.kind) → length ts ≤ 1
@@ -78,7 +78,7 @@ ContentsHaveTheirKey =
     (w : Walk) (now : Views) (k : Datum) (count : ℕ) → IsWalk w → AreLegal w.options now
     → IsContentOf w k (content_at w now k count)
 
--- A set gives at most one answer for a key at a moment, also where the key was deleted and put in again.
+-- A set gives at most one answer for a key at a moment, also if the key was deleted and inserted again.
 abbrev pub OneAnswerAKey : Type 0
 OneAnswerAKey =
     (w : Walk) (now : Views) (k : Datum) (moment : ℕ)

@@ -9,16 +9,16 @@ use part_core::{Look, PartOp, Scope};
 use std::alloc::Allocator;
 use verifier::Verified;
 
-/// What becomes of the objects that answer true.
+/// What a visit does with the objects for which the query returns `true`.
 #[derive(Clone, Copy)]
 pub enum Counting {
-    /// They are counted.
+    /// Count them.
     Count,
-    /// They are deleted and counted.
+    /// Delete and count them.
     Delete,
 }
 
-/// A visit that counts as an operation at a part.
+/// Returns the operation at a part that counts or deletes, with a target of 2^64 - 1.
 pub fn count_op<'q, A: Allocator>(
     counting: Counting,
     code: &'q Verified<A>,

@@ -3,47 +3,47 @@ ghost use Rattle.walk_core.specs.Laws.{WalksBegin, TurnsAreVisits, VisitsAreAnsw
 ghost use Rattle.walk_core.specs.Once.{DeletionsAreTheMarks, OtherVisitsTakeNothing, WalksBeginOnce, WalksCoverOnce, StopsCoverOnce, OnceOutlastsOthers, MomentsAreTheMarks, DeletingWalksTakeTheMarks, WiderCallsCoverOnce};
 ghost use Rattle.walk_core.specs.Stayed.{WhoStayedIsAnswered, NothingIsInvented, ContentsHaveTheirKey, OneAnswerAKey};
 
-/// A walk that begins has gathered nothing.
+/// A walk that begins has collected nothing.
 pub fn walks_begin()
     ensures { WalksBegin }
 {}
 
-/// A turn that was answered is a visit.
+/// A turn that was not refused is a visit.
 pub fn turns_are_visits()
     ensures { TurnsAreVisits }
 {}
 
-/// Where a walk can go on, its visit is answered.
+/// The next visit of a walk is not refused.
 pub fn visits_are_answered()
     ensures { VisitsAreAnswered }
 {}
 
-/// Visits carry a walk on.
+/// Visits continue a walk.
 pub fn walks_go_on()
     ensures { WalksGoOn }
 {}
 
-/// Visits carry a walk on also where the next one is refused for want of memory.
+/// Visits continue a walk also if the next one runs out of memory.
 pub fn walks_stop()
     ensures { WalksStop }
 {}
 
-/// What others do, and other calls of the session, changes nothing of a walk so far.
+/// What other sessions do, and other calls of the session, doesn't change a walk so far.
 pub fn walks_outlast_others()
     ensures { WalksOutlastOthers }
 {}
 
-/// At its end, with nothing kept, what a walk gave out is its answer.
+/// At its end, with nothing kept, what a walk returned is its answer.
 pub fn walks_end()
     ensures { WalksEnd }
 {}
 
-/// The visit at a key's moment, in a walk that deletes, takes out the objects that answer true.
+/// The visit at a key's moment, in a walk that deletes, removes the objects for which the query returns `true`.
 pub fn deletions_are_the_marks()
     ensures { DeletionsAreTheMarks }
 {}
 
-/// A visit takes nothing out of what it doesn't cover, and nothing at all where it doesn't delete.
+/// A visit removes nothing from what it doesn't cover, and nothing at all if it doesn't delete.
 pub fn other_visits_take_nothing()
     ensures { OtherVisitsTakeNothing }
 {}
@@ -58,12 +58,12 @@ pub fn walks_cover_once()
     ensures { WalksCoverOnce }
 {}
 
-/// They do so also where the next one is refused for want of memory.
+/// The visits of a walk cover each key once also if the next one runs out of memory.
 pub fn stops_cover_once()
     ensures { StopsCoverOnce }
 {}
 
-/// What others do changes nothing of that.
+/// What other sessions do, and other calls of the session, doesn't make a walk cover a key a second time.
 pub fn once_outlasts_others()
     ensures { OnceOutlastsOthers }
 {}
@@ -73,7 +73,7 @@ pub fn moments_are_the_marks()
     ensures { MomentsAreTheMarks }
 {}
 
-/// The visits of a deleting walk take out what is gathered, and nothing else.
+/// The visits of a deleting walk remove what is gathered, and nothing else.
 pub fn deleting_walks_take_the_marks()
     ensures { DeletingWalksTakeTheMarks }
 {}
@@ -83,17 +83,17 @@ pub fn who_stayed_is_answered()
     ensures { WhoStayedIsAnswered }
 {}
 
-/// Nothing is answered for an object that was never there.
+/// There is no answer for an object that was never there.
 pub fn nothing_is_invented()
     ensures { NothingIsInvented }
 {}
 
-/// In the content of a key stand objects with this key, in a set at most one.
+/// The content of a key consists of objects with this key, in a set at most one.
 pub fn contents_have_their_key()
     ensures { ContentsHaveTheirKey }
 {}
 
-/// A set gives at most one answer for a key.
+/// A set gives at most one answer for a key at a moment.
 pub fn one_answer_a_key()
     ensures { OneAnswerAKey }
 {}

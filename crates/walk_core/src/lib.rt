@@ -1,12 +1,12 @@
 //! Walks through the parts of a table: what they are, and what their answers mean.
 //!
 //! The one contract: however the histories of the parts grow meanwhile, the visits of a walk gather, for each key that
-//! is done once, what the query answers on the key's objects at one moment of the walk (`laws`; `specs/Moments.antt`).
+//! is done once, what the query answers for the key's objects at one moment of the walk (`laws`; `specs/Moments.antt`).
 //!
-//! - `specs/Walk.antt`: a walk, how far it has come, and the keys that it has done; `specs/Goes.antt`: visit after
-//!   visit.
-//! - `position`: how far a walk has come, as code has it, and where it is behind a visit; `counting`: visits that count.
-//! - `laws`: that a walk begins, goes on, outlasts what others do, and ends so.
+//! - `specs/Walk.antt`: a walk, its position, and the keys that it has done; `specs/Goes.antt`: visit after visit.
+//! - `position`: the position of a walk, as code represents it, and how a visit changes it; `counting`: visits that
+//!   count.
+//! - `laws`: that a walk begins, continues, is unaffected by what other sessions do, and ends in this way.
 #![tactic(auto)]
 
 mod counting;
@@ -21,4 +21,4 @@ pub use laws::{
     walks_begin, walks_begin_once, walks_cover_once, walks_end, walks_go_on, walks_outlast_others,
     walks_stop, who_stayed_is_answered, wider_calls_cover_once,
 };
-pub use position::{Position, at_key, at_part, behind, behind_key, scope_from};
+pub use position::{Position, after_key, at_key, at_part, behind, scope_from};

@@ -1,4 +1,4 @@
-//! How far a walk has come.
+//! The position of a walk.
 ghost use Rattle.std.specs.Prelude.{ℕ, ◌≡◌, ◌<◌, ◌+◌, option_map};
 ghost use Rattle.part_core.specs.Ops.{cursor_of, scope_of};
 ghost use Rattle.walk_core.specs.Positions.{IsThere, position_of};
@@ -7,15 +7,25 @@ ghost use Rattle.walk_core.specs.Walk.{at_key, at_part, position_in, scope_from}
 use part_core::{Cursor, Scope};
 use std::alloc::{Allocator, Global};
 
-/// How far a walk has come.
-#[derive(Drop)]
+/// The position of a walk.
 pub enum Position<A: Allocator = Global> {
-    /// In a part, where a cursor says, or at the part's beginning.
+    /// In a part, at a cursor, or at the part's beginning.
     InPart(u8, Option<Cursor<A>>),
-    /// At a named key, so many others being done.
+    /// At a named key, after that many others are done.
     AtNamed(usize),
-    /// At its end.
+    /// At the end.
     Over,
+}
+
+/// By hand: a function that drops one has one call in its proof, and not a case for each way in which its parts are dropped.
+impl<A: Allocator> Drop for Position<A> {
+    fn drop(self) {
+        match self {
+            Position::InPart(_part, cursor) => drop(cursor),
+            Position::AtNamed(_done) => {}
+            Position::Over => {}
+        }
+    }
 }
 
 impl<A: Allocator> Position<A> {
@@ -23,7 +33,7 @@ impl<A: Allocator> Position<A> {
     ghost use Rattle.walk_core.specs.Walk.Position.{Over};
     ghost use Rattle.walk_core.specs.Positions.{IsThere, position_of};
 
-    /// The walk is at its end.
+    /// Returns whether the walk is at its end.
     pub fn is_over(&self) -> bool
         ensures { MatchBool result (position_of self.now ≡ Over) (position_of self.now ≢ Over) }
     {
@@ -34,7 +44,8 @@ impl<A: Allocator> Position<A> {
         }
     }
 
-    /// The part or the named key where the walk is, is one of so many.
+    /// Returns whether the position is one in a walk through `parts` parts and `count` named keys: its part or its
+    /// named key, if it has one, is below the number of these.
     pub fn is_there(&self, parts: u8, count: usize) -> bool
         ensures { MatchBool result (IsThere parts count (position_of self.now))
             (¬ (IsThere parts count (position_of self.now))) }
@@ -47,7 +58,7 @@ impl<A: Allocator> Position<A> {
     }
 }
 
-/// At a named key, if there are so many.
+/// Returns the position at a named key, or at the end if there are not that many keys.
 pub fn at_key<A: Allocator>(number: usize, count: usize) -> Position<A>
     ensures at { position_of result ≡ at_key number count }
     ensures there { (parts : ℕ) → IsThere parts count (position_of result) }
@@ -59,7 +70,7 @@ pub fn at_key<A: Allocator>(number: usize, count: usize) -> Position<A>
     }
 }
 
-/// At the beginning of a part, if there are so many.
+/// Returns the position at the beginning of a part, or at the end if there are not that many parts.
 pub fn at_part<A: Allocator>(part: u8, parts: u8) -> Position<A>
     ensures at { position_of result ≡ at_part part parts }
     ensures there { (count : ℕ) → IsThere parts count (position_of result) }
@@ -71,7 +82,8 @@ pub fn at_part<A: Allocator>(part: u8, parts: u8) -> Position<A>
     }
 }
 
-/// Where a walk through so many parts is behind a visit of one.
+/// Returns the position after a visit of a part, in a walk through `parts` parts; `next` is the cursor that the visit
+/// returned.
 pub fn behind<A: Allocator>(part: u8, next: Option<Cursor<A>>, parts: u8) -> Position<A>
     requires { part < parts }
     ensures at { position_of result ≡ position_in parts part (option_map cursor_of next) }
@@ -83,8 +95,8 @@ pub fn behind<A: Allocator>(part: u8, next: Option<Cursor<A>>, parts: u8) -> Pos
     }
 }
 
-/// Where a walk is behind the visit of a key, of so many.
-pub fn behind_key<A: Allocator>(number: usize, count: usize) -> Position<A>
+/// Returns the position after the visit of a named key, of `count`.
+pub fn after_key<A: Allocator>(number: usize, count: usize) -> Position<A>
     requires { number < count }
     ensures at { position_of result ≡ at_key (number + 1) count }
     ensures there { (parts : ℕ) → IsThere parts count (position_of result) }
@@ -92,7 +104,7 @@ pub fn behind_key<A: Allocator>(number: usize, count: usize) -> Position<A>
     at_key(number + 1, count)
 }
 
-/// What a visit looks at that goes on from a cursor, or begins.
+/// Returns what a visit looks at that goes on from a cursor, or, without one, begins.
 pub fn scope_from<A: Allocator>(cursor: &Option<Cursor<A>>) -> Scope<'_, A>
     ensures { scope_of result ≡ scope_from (option_map cursor_of cursor.now) }
 {

@@ -1,4 +1,4 @@
--- What the turns of a call find: the first key of the parts from one on, and the key behind another.
+-- What the turns of a call find: the first key of the parts from one on, and the key after another.
 use Rattle.std.proofs.Common.{◌≡◌, ℕ, ◌<◌, ◌≤◌, ◌==◌, ◌⊎◌, inl, inr, List, [], ◌++◌, ap, sym, subst, ◌∙◌, arith, append_assoc}
 use Rattle.std.specs.Prelude.{Contains, Option, Some, None, nat_lt}
 use Rattle.std.proofs.lemmas.Bool.{eqb-true, eqb-false, ltb-true, ltb-false}
@@ -20,7 +20,7 @@ use Rattle.walks.specs.Keys.{Passed, FoundFirst}
 use Rattle.walk_laws.proofs.StateLemmas.{IsFirst, first_answered}
 use Rattle.walk_laws.proofs.TurnLemmas.{Told, Extends, extends_then, state_at, turn_told}
 
--- ---- histories that go on
+-- ---- histories that are continued
 
 pub turned_extends : (h : Home) (part : ℕ) (act : Act) (answer : Option Answer) (v w : Views) → Turned h part act answer v w → Extends h v w
 turned_extends h part act answer v w t k inside =
@@ -99,7 +99,7 @@ scanned h calls before v now from (Some j) made grown s =
         let t = first_told h calls before now p (v p) (s.between p) None g.0 [] made g.1 stays (s.passed.none p low below) in
         record { log = t.0; told = t.1; none = t.2 }
 
--- ---- the key behind another, in its part
+-- ---- the key after another, in its part
 
 pub next_told : (h : Home) (calls : List Span) (before u now : Views) (part : ℕ) (k : Datum) (answer : Answer) (log x : History) → part < h.options.parts → Contains calls (span before now) → before part ≡ log ++ x → Extends h u now → Turned h part (Next k) (Some answer) before u
     → (mid : History) × Told h calls now part (log ++ mid) × (answer ≡ reply_of (settings_of h.options) (state_at h (log ++ mid)) h.number (Next k))

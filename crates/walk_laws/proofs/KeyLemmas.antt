@@ -1,4 +1,4 @@
--- Keys of a list, by their places.
+-- Keys of a list, by their positions.
 use Rattle.std.proofs.Common.{◌≢◌, ℕ, zero, suc, ◌<◌, inl, inr, List, [], ◌∷◌, refl, sym, subst, arith, length, get_or}
 use Rattle.std.specs.Prelude.{AllPairs, Contains}
 use Rattle.term_core.specs.Datum.{Datum}

@@ -1,4 +1,4 @@
--- Live rows: the first of them, and the first behind a key.
+-- Live rows: the first of them, and the first after a key.
 use Rattle.std.proofs.Common.{◌≡◌, ◌≢◌, ℕ, zero, suc, ◌+◌, ◌<◌, ◌≤◌, ◌/◌, ◌==◌, ◌⊎◌, inl, inr, List, [], ◌∷◌, ◌++◌, refl, ap, sym, subst, ◌∙◌, arith, flat_map}
 use Rattle.std.specs.Prelude.{Bool, true, false, not, IsTrue, Some, None, filter, unwrap_or}
 use Rattle.std.specs.List.{AllByRecursion, range_with_len}
@@ -17,7 +17,7 @@ use Rattle.part_core.specs.declared.settings.Settings.{Settings}
 use Rattle.part_core.specs.Settings.{is_ordered, class_at}
 use Rattle.part_core.specs.Rows.{Row, is_empty, is_live, objects_at}
 use Rattle.part_core.specs.Replies.{first_live, rows_past}
-use Rattle.part_core.specs.Visits.{in_class, is_behind, rows_behind, walk_order}
+use Rattle.part_core.specs.Visits.{in_class, is_beyond, following_rows, walk_order}
 use Rattle.part_core.proofs.KeyLemmas.{by_test, same_from, same_is}
 use Rattle.walk_laws.proofs.OrderLemmas.{Has, Before, Once, before_last}
 
@@ -112,7 +112,7 @@ before_passing p (r ∷ rows) j k b =
     of further (inl here) = inl (here.0, has_passing p rows k here.1)
     of further (inr there) = inr (further there)
 
--- ---- in the order of a walk
+-- ---- in walk order
 
 abbrev rows_walked : Settings → ℕ → List Row → ℕ → ℕ → List Row
 rows_walked o base rows class n = flat_map (λ c. in_class o base c rows) (range_with_len class n)
@@ -187,7 +187,7 @@ first_least (r ∷ rows) j k is h =
     later dead more (inl first) = absurd (true≢false (sym first.1 ∙ dead))
     later dead more (inr there) = further (more there)
 
--- ---- the rows behind that of a key
+-- ---- the rows after that of a key
 
 past_live : (k : Datum) (rows : List Row) (l : Datum) → HasLive (rows_past k rows) l → HasLive rows l × Before (keys_of rows) k l
 past_live k [] l h = absurd h
@@ -235,7 +235,7 @@ past_least k rows j l once is b h = of (first_least (rows_past k rows) j l is (l
     of (inl same) = inl same
     of (inr later) = inr (past_before k rows j l later)
 
--- ---- rows by rising key
+-- ---- rows in ascending key order
 
 risen : (j : Datum) (ks : List Datum) (l : Datum) → AllByRecursion (λ k. datum_cmp j k ≡ Less) ks → Has ks l → datum_cmp j l ≡ Less
 risen j [] l all h = absurd h
@@ -248,10 +248,10 @@ before_less [] j l s b = absurd b
 before_less (i ∷ ks) j l s (inl here) = subst (λ (k : Datum). datum_cmp k l ≡ Less) here.0 (risen i ks l s.0 here.1)
 before_less (i ∷ ks) j l s (inr later) = before_less ks j l s.1 later
 
-less_behind : (j k : Datum) → datum_cmp j k ≡ Less → is_behind j k ≡ true
+less_behind : (j k : Datum) → datum_cmp j k ≡ Less → is_beyond j k ≡ true
 less_behind j k h = ap is_lt h
 
-behind_less : (j k : Datum) → is_behind j k ≡ true → datum_cmp j k ≡ Less
+behind_less : (j k : Datum) → is_beyond j k ≡ true → datum_cmp j k ≡ Less
 behind_less j k h = of (datum_cmp j k) h
   where
     of : (way : Ordering) → is_lt way ≡ true → way ≡ Less
@@ -259,16 +259,16 @@ behind_less j k h = of (datum_cmp j k) h
     of Equal h = absurd (false≢true h)
     of Greater h = absurd (false≢true h)
 
-pub behind_is : (k : Datum) (rows : List Row) (j : Datum) → first_live (rows_behind k rows) ≡ Some j → HasLive rows j × (datum_cmp k j ≡ Less)
+pub behind_is : (k : Datum) (rows : List Row) (j : Datum) → first_live (following_rows k rows) ≡ Some j → HasLive rows j × (datum_cmp k j ≡ Less)
 behind_is k rows j is =
-    let there = passing_live (is_behind k) rows j (first_is (rows_behind k rows) j is) in (there.0, behind_less k j there.1)
+    let there = passing_live (is_beyond k) rows j (first_is (following_rows k rows) j is) in (there.0, behind_less k j there.1)
 
-pub behind_none : (k : Datum) (rows : List Row) (l : Datum) → first_live (rows_behind k rows) ≡ None → datum_cmp k l ≡ Less → HasLive rows l → ⊥
-behind_none k rows l none less h = first_none (rows_behind k rows) l none (live_passing (is_behind k) rows l (less_behind k l less) h)
+pub behind_none : (k : Datum) (rows : List Row) (l : Datum) → first_live (following_rows k rows) ≡ None → datum_cmp k l ≡ Less → HasLive rows l → ⊥
+behind_none k rows l none less h = first_none (following_rows k rows) l none (live_passing (is_beyond k) rows l (less_behind k l less) h)
 
-pub behind_least : (k : Datum) (rows : List Row) (j l : Datum) → IsStrictlySortedBy datum_cmp (keys_of rows) → first_live (rows_behind k rows) ≡ Some j → datum_cmp k l ≡ Less → HasLive rows l → (l ≡ j) ⊎ (datum_cmp j l ≡ Less)
-behind_least k rows j l s is less h = of (first_least (rows_behind k rows) j l is (live_passing (is_behind k) rows l (less_behind k l less) h))
+pub behind_least : (k : Datum) (rows : List Row) (j l : Datum) → IsStrictlySortedBy datum_cmp (keys_of rows) → first_live (following_rows k rows) ≡ Some j → datum_cmp k l ≡ Less → HasLive rows l → (l ≡ j) ⊎ (datum_cmp j l ≡ Less)
+behind_least k rows j l s is less h = of (first_least (following_rows k rows) j l is (live_passing (is_beyond k) rows l (less_behind k l less) h))
   where
-    of : (l ≡ j) ⊎ Before (keys_of (rows_behind k rows)) j l → (l ≡ j) ⊎ (datum_cmp j l ≡ Less)
+    of : (l ≡ j) ⊎ Before (keys_of (following_rows k rows)) j l → (l ≡ j) ⊎ (datum_cmp j l ≡ Less)
     of (inl same) = inl same
-    of (inr later) = inr (before_less (keys_of rows) j l s (before_passing (is_behind k) rows j l later))
+    of (inr later) = inr (before_less (keys_of rows) j l s (before_passing (is_beyond k) rows j l later))

@@ -1,4 +1,4 @@
--- Keys in the order of a walk: which stand before which, and that further rows behind the others change nothing of it.
+-- Keys in walk order: which come before which, and that appending rows doesn't change this.
 use Rattle.std.proofs.Common.{◌≡◌, ℕ, zero, suc, ◌+◌, ◌≤◌, ◌==◌, ◌⊎◌, inl, inr, List, [], ◌∷◌, ◌++◌, refl, ap, sym, subst, ◌∙◌, arith, flat_map}
 use Rattle.std.specs.Prelude.{Bool, true, false, filter}
 use Rattle.std.specs.List.{IsDistinct, AllByRecursion, range_with_len}
@@ -19,12 +19,12 @@ abbrev pub Has : List Datum → Datum → Type 0
 Has [] k = ⊥
 Has (j ∷ js) k = (j ≡ k) ⊎ Has js k
 
--- the one key stands before the other
+-- the first key comes before the second
 abbrev pub Before : List Datum → Datum → Datum → Type 0
 Before [] j k = ⊥
 Before (i ∷ rest) j k = ((i ≡ j) × Has rest k) ⊎ Before rest j k
 
--- each key stands there once
+-- no key occurs twice
 abbrev pub Once : List Datum → Type 0
 Once [] = Unit {0}
 Once (j ∷ js) = (Has js j → ⊥) × Once js
@@ -122,7 +122,7 @@ once_append (x ∷ xs) ys once more apart = (
     of (inl here) = once.0 here
     of (inr there) = apart x (inl refl) there
 
--- ---- a list in which others stand in their order
+-- ---- a list in which the keys of another are in the same order
 
 pub record Keeps (old new : List Datum) : Type 0 where
   pub has : (k : Datum) → Has old k → Has new k
@@ -170,7 +170,7 @@ once_passing p (k ∷ ks) once =
 abbrev class_keys : Settings → ℕ → List Datum → ℕ → List Datum
 class_keys o base ks class = filter (λ k. class_at o base k == class) ks
 
--- the keys of so many classes from one on
+-- the keys of n classes from one on
 abbrev keys_walked : Settings → ℕ → List Datum → ℕ → ℕ → List Datum
 keys_walked o base ks class n = flat_map (class_keys o base ks) (range_with_len class n)
 
@@ -196,7 +196,7 @@ once_walked o base ks (suc n) class once =
     once_append (class_keys o base ks class) (keys_walked o base ks (class + 1) n) (once_passing (λ k. class_at o base k == class) ks once) (once_walked o base ks n (class + 1) once)
     (λ k here later. let is = eqb-true (class_at o base k) class (has_passing (λ j. class_at o base j == class) ks k here).1 in let above = walked_above o base ks n (class + 1) k later in absurd (omega (arith, is, above)))
 
--- ---- the keys of rows in the order of a walk
+-- ---- the keys of rows in walk order
 
 keys_passing : (p : Datum → Bool) (rows : List Row) → keys_of (filter (λ r. p r.0) rows) ≡ filter p (keys_of rows)
 keys_passing p [] = refl
@@ -210,7 +210,7 @@ keys_of_classes o base rows (class ∷ classes) =
     ∙ ap (λ ks. ks ++ keys_of (flat_map (λ c. in_class o base c rows) classes)) (keys_passing (λ k. class_at o base k == class) rows)
     ∙ ap (λ ks. class_keys o base (keys_of rows) class ++ ks) (keys_of_classes o base rows classes)
 
--- the keys of a part in the order of a walk
+-- the keys of a part in walk order
 abbrev pub walk_keys : Settings → ℕ → List Row → List Datum
 walk_keys o base rows = keys_of (walk_order o base rows)
 
@@ -222,7 +222,7 @@ pub walk_once : (o : Settings) (base : ℕ) (rows : List Row) → is_ordered o.k
 walk_once o base rows plain distinct =
     subst Once (sym (walked o base rows plain)) (once_walked o base (keys_of rows) base 0 (once_from_distinct (keys_of rows) distinct))
 
--- further rows behind the others leave the order
+-- appended rows don't change the order of the others
 pub walk_keeps : (o : Settings) (base : ℕ) (rows later : List Row) (more : List Datum) → is_ordered o.kind ≡ false → keys_of later ≡ keys_of rows ++ more → Keeps (walk_keys o base rows) (walk_keys o base later)
 walk_keeps o base rows later more plain grown =
     subst (Keeps (walk_keys o base rows)) (sym (walked o base later plain))

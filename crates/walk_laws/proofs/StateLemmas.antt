@@ -1,4 +1,4 @@
--- The order of a tour in a state of a part: what is found there first or behind a key, and that the order stays.
+-- The order of a tour in a state of a part: what is found first or after a key, and that the order stays.
 use Rattle.std.proofs.Common.{◌≡◌, ◌≢◌, ℕ, ◌<◌, ◌⊎◌, inl, inr, List, [], refl, ap, sym, subst, ◌∙◌, arith}
 use Rattle.std.specs.Prelude.{Bool, true, false, IsTrue, Option, Some, None}
 use Rattle.std.specs.Map.{keys_of}
@@ -18,7 +18,7 @@ use Rattle.part_core.specs.Acts.Said.{AtKey}
 use Rattle.part_core.specs.Rows.{Row, PartState, objects_at, has_row}
 use Rattle.part_core.specs.Replies.{reply_of, first_live, rows_past}
 use Rattle.part_core.specs.States.{IsState}
-use Rattle.part_core.specs.Visits.{rows_behind, walk_order}
+use Rattle.part_core.specs.Visits.{following_rows, walk_order}
 use Rattle.part_core.specs.Laws.{Stays}
 use Rattle.part_core.proofs.KeyLemmas.{by_test, not_behind_itself}
 use Rattle.part_core.proofs.RowLemmas.{no_objects}
@@ -30,7 +30,7 @@ use Rattle.walk_laws.proofs.LiveLemmas.{HasLive, live_there, there_live, live_wa
 abbrev pub IsThere : PartState → Datum → Type 0
 IsThere s k = objects_at s.rows k ≢ []
 
--- the one key is before the other: in an ordered set by the order of terms, else in the order of a walk
+-- the first key comes before the second: in an ordered set in the order of terms, else in walk order
 abbrev pub PrecedesBy : Bool → Settings → PartState → Datum → Datum → Type 0
 PrecedesBy true o s j k = datum_cmp j k ≡ Less
 PrecedesBy false o s j k = Before (walk_keys o s.base s.rows) j k
@@ -43,13 +43,13 @@ abbrev pub IsFirst : Settings → PartState → Option Datum → Type 0
 IsFirst o s None = (l : Datum) → IsThere s l → ⊥
 IsFirst o s (Some j) = IsThere s j × ((l : Datum) → IsThere s l → (l ≡ j) ⊎ Precedes o s j l)
 
--- the first one behind another key
+-- the first key after another that has objects, if there is one
 abbrev pub IsNext : Settings → PartState → Datum → Option Datum → Type 0
 IsNext o s k None = (l : Datum) → IsThere s l → Precedes o s k l → ⊥
 IsNext o s k (Some j) =
     IsThere s j × Precedes o s k j × ((l : Datum) → IsThere s l → Precedes o s k l → (l ≡ j) ⊎ Precedes o s j l)
 
--- the order of the one state is that of the other too
+-- the order in the first state is that in the second, too
 abbrev pub IsHeld : Settings → PartState → PartState → Type 0
 IsHeld o s t = IsTrue (is_ordered o.kind) ⊎ Stays o s t
 
@@ -96,7 +96,7 @@ abbrev key_said : Answer → Option Datum
 key_said (Replied (AtKey k)) = k
 key_said answer = None
 
--- rows of an ordered set are walked as they stand
+-- the rows of an ordered set are walked in the order of the list
 ordered_walk : (o : Settings) (base : ℕ) (rows : List Row) → is_ordered o.kind ≡ true → walk_order o base rows ≡ rows
 unfolding walk_order
 ordered_walk o base rows ordered = rw ordered refl
@@ -110,7 +110,7 @@ walk_precedes o s j l state b =
 some_base : (o : Settings) (s : PartState) → IsState o s → 0 < s.base
 some_base o s state = let most = base_least s.base state.base.0 in omega (arith, most)
 
--- a key that has objects is live in the order of a walk, and the other way round
+-- a key has objects if and only if it has a live row in walk order
 walked : (o : Settings) (s : PartState) (l : Datum) → IsState o s → IsThere s l → HasLive (walk_order o s.base s.rows) l
 walked o s l state there = live_walked o s.base s.rows l (some_base o s state) (live_there s.rows l there)
 
@@ -128,7 +128,7 @@ first_found o s (Some j) state is = (
     of l (inl same) = inl same
     of l (inr b) = inr (walk_precedes o s j l state b)
 
-behind_found : (o : Settings) (s : PartState) (k : Datum) (key : Option Datum) → IsState o s → is_ordered o.kind ≡ true → first_live (rows_behind k s.rows) ≡ key → IsNext o s k key
+behind_found : (o : Settings) (s : PartState) (k : Datum) (key : Option Datum) → IsState o s → is_ordered o.kind ≡ true → first_live (following_rows k s.rows) ≡ key → IsNext o s k key
 behind_found o s k None state ordered is =
     λ l there less. behind_none k s.rows l is (as_less o s k l ordered less) (live_there s.rows l there)
 behind_found o s k (Some j) state ordered is =
@@ -161,7 +161,7 @@ reply_first : (o : Settings) (s : PartState) (n : ℕ) → reply_of o s n First 
 unfolding reply_of
 reply_first o s n = refl
 
-reply_ordered : (o : Settings) (s : PartState) (n : ℕ) (k : Datum) → is_ordered o.kind ≡ true → reply_of o s n (Next k) ≡ Replied (AtKey (first_live (rows_behind k s.rows)))
+reply_ordered : (o : Settings) (s : PartState) (n : ℕ) (k : Datum) → is_ordered o.kind ≡ true → reply_of o s n (Next k) ≡ Replied (AtKey (first_live (following_rows k s.rows)))
 unfolding reply_of
 reply_ordered o s n k ordered = rw ordered refl
 
@@ -187,11 +187,11 @@ next_answered o s n k key state is =
     (λ there. past_found o s k key state plain (sym (ap key_said (is ∙ reply_past o s n k plain there))))
     (λ none. absurd (not_bad key (is ∙ reply_bad o s n k plain none))))
 
--- a key that had objects isn't refused where the order stays
+-- a key that had objects isn't refused while the order stays
 pub never_bad : (o : Settings) (s t : PartState) (n : ℕ) (k : Datum) → IsThere s k → IsHeld o s t → Refused BadKey ≡ reply_of o t n (Next k) → ⊥
 never_bad o s t n k there held is =
     by_test (is_ordered o.kind) ⊥
-    (λ ordered. not_bad (first_live (rows_behind k t.rows)) (sym (is ∙ reply_ordered o t n k ordered)))
+    (λ ordered. not_bad (first_live (following_rows k t.rows)) (sym (is ∙ reply_ordered o t n k ordered)))
     (λ plain. not_bad (first_live (rows_past k (walk_order o t.base t.rows))) (sym (is ∙ reply_past o t n k plain (row_stays held plain))))
   where
     has : has_row s.rows k ≡ true

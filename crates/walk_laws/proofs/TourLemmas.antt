@@ -33,7 +33,7 @@ use Rattle.walk_laws.proofs.StateLemmas.{IsThere, IsHeld, IsNext, Precedes, prec
 use Rattle.walk_laws.proofs.TurnLemmas.{Told, Extends, extends_none, extends_then, state_at, part_at, key_part, turn_later, turn_within, moment_later, told_later, told_moment, told_there, told_placed, steady_earlier, stayed_earlier, held_between}
 use Rattle.walk_laws.proofs.FindLemmas.{Scanned, IsSilent, turned_extends, found_extends, scanned, next_told}
 
--- the one key is met before the other: in an earlier part, or before it in the same one
+-- the first key is met before the second: in an earlier part, or before it in the same part
 abbrev pub IsBeneath : Home → PartState → Datum → Datum → Type 0
 IsBeneath h s i k =
     (part_at h i < part_at h k) ⊎ ((part_at h i ≡ part_at h k) × Precedes (settings_of h.options) s i k)
@@ -44,8 +44,8 @@ pub record AreMet (h : Home) (calls : List Span) (keys : List Datum) (now : View
   pub rising : IsTrue (is_ordered h.options.kind) → IsStrictlySortedBy datum_cmp keys
   pub there : (k : Datum) → Has keys k → (moment : ℕ) × IsTurn h calls now (part_at h k) moment × (objects_then h now k moment ≢ [])
 
--- A tour that has come to a key, at a turn at the key's part: the others that were met are before it, and of those that
--- stayed the ones before it were met.
+-- A tour has reached a key, at a turn at the key's part: the others that were met are before it, and of the keys that
+-- stayed, those before it were met.
 pub record IsReached (h : Home) (calls : List Span) (keys : List Datum) (now : Views) (k : Datum) : Type 0 where
   pub log : History
   pub told : Told h calls now (part_at h k) log
@@ -54,7 +54,7 @@ pub record IsReached (h : Home) (calls : List Span) (keys : List Datum) (now : V
   pub before : (l : Datum) → Stayed h calls now l → part_at h l < part_at h k → Has keys l
   pub here : (l : Datum) → Stayed h calls now l → part_at h l ≡ part_at h k → Has keys l ⊎ Precedes (settings_of h.options) (state_at h log) k l
 
--- where a tour is: at a key, or at its end, where all that stayed were met
+-- the position of a tour: at a key, or at its end, where all keys that stayed were met
 abbrev pub IsWhere : Home → List Span → List Datum → Views → Option Datum → Type 0
 IsWhere h calls keys now None = (l : Datum) → Stayed h calls now l → Has keys l
 IsWhere h calls keys now (Some k) = IsReached h calls keys now k
@@ -77,7 +77,7 @@ sorted_push (k ∷ ks) j s less =
 has_last : (ks : List Datum) (j : Datum) → Has (ks ++ j ∷ []) j
 has_last ks j = has_right ks (j ∷ []) j (inl refl)
 
--- a key that has objects, behind those that were met
+-- a key that has objects, after those that were met, is met too
 met_more : (h : Home) (calls : List Span) (keys : List Datum) (now : Views) (log : History) (j : Datum) → IsSteady h calls now → AreMet h calls keys now → Told h calls now (part_at h j) log → IsThere (state_at h log) j → ((i : Datum) → Has keys i → IsBeneath h (state_at h log) i j) → AreMet h calls (keys ++ j ∷ []) now
 met_more h calls keys now log j steady met told there beneath = record {
   once = once_append keys (j ∷ []) met.once ((λ none. none), tt) (λ i old new. apart i new (beneath i old));
@@ -134,7 +134,7 @@ arrives h calls keys now log j steady met told there beneath before here = (
 
 -- ---- the parts from one on
 
--- where no key was found from a part on, none that stayed is there
+-- if no key was found from a part on, no key that stayed is there
 none_left : (h : Home) (calls : List Span) (now : Views) (from to : ℕ) (l : Datum) → ((p : ℕ) → from ≤ p → p < to → IsSilent h calls now p) → Stayed h calls now l → from ≤ part_at h l → part_at h l < to → ⊥
 none_left h calls now from to l silent stayed low below =
     let s = silent (part_at h l) low below in s.none l (told_there h calls now l s.log stayed s.told)
@@ -158,9 +158,9 @@ scan_arrives h calls keys now from (Some j) steady met below done f =
     (λ high. absurd (none_left h calls now from f.part l f.silent stayed (ltb-false (part_at h l) from high) (omega (arith, under, same)))))
     (λ l stayed here. inr (f.first.1 l (told_there h calls now l f.log stayed (subst (λ (p : ℕ). Told h calls now p f.log) (sym (here ∙ same)) f.told))))
 
--- ---- behind the last key
+-- ---- after the last key
 
--- a tour is where it was, whatever was done since
+-- the keys that were met stay met, whatever was done since
 met_later : (h : Home) (calls more : List Span) (keys : List Datum) (old now : Views) → 0 < h.options.parts → Extends h old now → AreMet h calls keys old → AreMet h (calls ++ more) keys now
 met_later h calls more keys old now some grown met = record {
   once = met.once;
@@ -181,7 +181,7 @@ reached_later h calls more keys old now k some grown r = record {
   here = λ l stayed same. r.here l (stayed_earlier h calls more old now l some grown stayed) same;
 }
 
--- the next turn at the key's part finds a key
+-- if the next turn at the key's part finds a key, the tour has reached it
 next_arrives : (h : Home) (calls : List Span) (keys : List Datum) (now : Views) (k j : Datum) (mid : History) → IsSteady h calls now → AreMet h calls keys now → (r : IsReached h calls keys now k) → Told h calls now (part_at h k) (r.log ++ mid)
     → IsNext (settings_of h.options) (state_at h (r.log ++ mid)) k (Some j) → IsToured h calls (keys ++ j ∷ []) now (Some j)
 next_arrives h calls keys now k j mid steady met r told next =
@@ -204,7 +204,7 @@ next_arrives h calls keys now k j mid steady met r told next =
     of l stayed same (inl old) = inl old
     of l stayed same (inr b) = inr (next.2 l (told_there h calls now l (r.log ++ mid) stayed (subst (λ (p : ℕ). Told h calls now p (r.log ++ mid)) (sym same) told)) (held k l b))
 
--- it finds none, and the parts behind are gone through
+-- if the next turn finds none, the tour goes through the parts after it
 part_ends : (h : Home) (calls : List Span) (keys : List Datum) (now : Views) (k : Datum) (mid : History) (key : Option Datum) → IsSteady h calls now → AreMet h calls keys now → (r : IsReached h calls keys now k) → Told h calls now (part_at h k) (r.log ++ mid)
     → IsNext (settings_of h.options) (state_at h (r.log ++ mid)) k None → Scanned h calls now (part_at h k + 1) key → IsToured h calls (keys ++ answered key) now key
 part_ends h calls keys now k mid key steady met r told next scan =
@@ -310,7 +310,7 @@ told_at h calls now part moment log t turn low =
       legal = legal_front_from (settings_of h.options) (opening (settings_of h.options)) (take moment log) (drop moment log) (subst (IsLegal (settings_of h.options)) (sym whole) t.legal);
     }
 
--- a key had objects at a turn: it isn't refused at a later one
+-- a key that had objects at a turn isn't refused at a later turn
 row_stays : (h : Home) (calls : List Span) (now : Views) (k : Datum) (moment : ℕ) (log : History) → IsSteady h calls now → Told h calls now (part_at h k) log → IsTurn h calls now (part_at h k) moment → moment ≤ length log → objects_then h now k moment ≢ [] → Refused BadKey ≡ reply_of (settings_of h.options) (state_at h log) h.number (Next k) → ⊥
 row_stays h calls now k moment log steady t turn low some refused =
     let o = settings_of h.options in

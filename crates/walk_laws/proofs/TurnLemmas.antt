@@ -1,4 +1,4 @@
--- Turns of a tour, as the histories of the parts tell them.
+-- Turns of a tour, in terms of the histories of the parts.
 use Rattle.std.proofs.Common.{◌≡◌, ◌≢◌, ℕ, suc, ◌<◌, ◌≤◌, ◌==◌, inl, inr, List, [], ◌∷◌, ◌++◌, refl, ap, sym, subst, ◌∙◌, arith, append_assoc, length}
 use Rattle.std.specs.Prelude.{IsFalse, All, Contains, Some, take, slice_get}
 use Rattle.std.proofs.lemmas.Bool.{eqb-true, eqb-false}
@@ -26,7 +26,7 @@ use Rattle.walk_core.specs.Moments.{Span, span}
 use Rattle.walk_laws.specs.Tours.{IsTurn, IsSteady, Stayed}
 use Rattle.walk_laws.proofs.StateLemmas.{IsThere, IsHeld}
 
--- the state of a part behind a history
+-- the state of a part after a history
 abbrev pub state_at : Home → History → PartState
 state_at h log = state_after (settings_of h.options) log
 
@@ -40,7 +40,7 @@ pub record Told (h : Home) (calls : List Span) (now : Views) (part : ℕ) (log :
   pub turn : IsTurn h calls now part (length log)
   pub legal : IsLegal (settings_of h.options) log
 
--- the histories of the parts go on
+-- the histories of the parts are continued
 abbrev pub Extends : Home → Views → Views → Type 0
 Extends h old now = (part : ℕ) → part < h.options.parts → (more : History) × (now part ≡ old part ++ more)
 

@@ -1,6 +1,6 @@
--- A worked tour: a set of two parts, even keys in the one and odd ones in the other, that session 0 fixes. Behind the
--- first call session 1 deletes the key that was met, and puts in one that is still to come; behind the second one
--- session 0 looks up a key itself.
+-- A worked tour: a set of two parts, even keys in one and odd keys in the other, that session 0 fixes. After the first
+-- call, session 1 deletes the key that was met, and inserts one that is still to come. After the second call, session 0
+-- looks up a key itself.
 use Rattle.std.proofs.Common.{◌≡◌, ◌≢◌, ℕ, zero, suc, ◌<◌, ◌≤◌, inl, inr, List, [], ◌∷◌, ◌++◌, refl, sym, arith, length, pos}
 use Rattle.std.specs.Prelude.{Contains, Some, None, take, false}
 use Rattle.std.proofs.lemmas.List.{append-nil}
@@ -50,7 +50,7 @@ views even odd (suc (suc part)) = []
 abbrev made : ℕ → Act → Said → Entry
 made n act said = record { session = n; act = act; answer = Replied said }
 
--- what was done at the part of even keys, piece by piece
+-- the history of the part of even keys, piece by piece
 abbrev even_at_first : History
 even_at_first =
     made 0 (Insert (one 2)) Nothing ∷ made 0 (Insert (one 4)) Nothing ∷ made 0 Fix Nothing ∷ []
@@ -73,7 +73,7 @@ third_answer = made 0 (Next (key 4)) (AtKey (Some (key 20))) ∷ []
 abbrev last_even : History
 last_even = made 0 (Next (key 20)) (AtKey None) ∷ []
 
--- and at that of odd ones
+-- the history of the part of odd keys, piece by piece
 abbrev odd_at_first : History
 odd_at_first = made 0 (Insert (one 3)) Nothing ∷ made 0 Fix Nothing ∷ []
 
@@ -179,7 +179,7 @@ odd_rest even odd now zero other = refl
 odd_rest even odd now (suc zero) other = absurd (other refl)
 odd_rest even odd now (suc (suc part)) other = refl
 
--- the histories go on by these entries
+-- the histories are continued with these entries
 grown : (even more odd : History) → IsLegal (settings_of table) (even ++ more) → IsLegal (settings_of table) odd → IsGrown table (views even odd) (views (even ++ more) odd)
 grown even more odd even_is odd_is zero inside = (more, refl, even_is)
 grown even more odd even_is odd_is (suc zero) inside = ([], sym (append-nil odd), odd_is)
@@ -259,7 +259,7 @@ calls =
     ∷ span (views even_last odd_met) (views even_last odd_last)
     ∷ []
 
--- the keys of the even part, class by class, and then that of the odd one
+-- the keys of the even part, class by class, followed by that of the odd part
 abbrev tour : Tour
 tour =
     record { calls = calls; keys = key 2 ∷ key 4 ∷ key 20 ∷ key 3 ∷ []; views = views even_last odd_last; last = None }
@@ -273,7 +273,7 @@ is_tour =
     (record { key = key 20; asked = refl; before = views even_third odd_at_first; meanwhile = grown even_third [] odd_at_first third_legal odd_first_legal; found = fourth_call; calls = refl; keys = refl }))
     (record { key = key 3; asked = refl; before = views even_last odd_met; meanwhile = grown even_last [] odd_met even_legal odd_met_legal; found = fifth_call; calls = refl; keys = refl })
 
--- ---- it keeps what the laws ask of it
+-- ---- it satisfies the premises of the laws
 
 placed : ArePlaced table (views even_last odd_last)
 unfolding key_hash
@@ -305,7 +305,7 @@ odd_fixed (suc (suc (suc zero))) low = omega arith
 odd_fixed (suc (suc (suc (suc zero)))) low = omega arith
 odd_fixed (suc (suc (suc (suc (suc moment))))) low = omega arith
 
--- the calls begin behind the fixes
+-- the calls begin after the fixes
 even_begun : (call : Span) → Contains calls call → 3 ≤ length (call.before 0)
 even_begun call made =
     All-contains (λ (c : Span). 3 ≤ length (c.before 0)) calls call (All-from_recursion (λ (c : Span). 3 ≤ length (c.before 0)) calls (omega arith, (omega arith, (omega arith, (omega arith, (omega arith, tt)))))) made

@@ -1,4 +1,4 @@
--- What holds of every tour whose order is kept.
+-- What holds of every tour whose order stays.
 use Rattle.std.specs.Prelude.{ℕ, ◌≡◌, ◌≢◌, ◌++◌, IsTrue, AllPairs, Contains, None, [], ◌∷◌}
 use Rattle.std.specs.List.Sorted.{IsStrictlySortedBy}
 use Rattle.term_core.specs.Datum.{Datum}
@@ -11,7 +11,7 @@ use Rattle.walk_core.specs.Moments.{span, IsGrown}
 use Rattle.walks.specs.Keys.{RefusedNext}
 use Rattle.walk_laws.specs.Tours.{Tour, IsTour, IsTurn, IsSteady, Stayed, objects_then}
 
--- a key that a tour was answered isn't refused when the session asks for the key behind it, also long after
+-- a key that a tour returned isn't refused when the session requests the key after it, even much later
 abbrev pub ToursGoOn : Type 0
 ToursGoOn =
     (h : Home) (t : Tour) (k : Datum) (before after : Views)
@@ -37,7 +37,7 @@ ToursMeetWhoStayed =
     (h : Home) (t : Tour) (k : Datum) → IsTour h t → IsSteady h t.calls t.views → t.last ≡ None
     → Stayed h t.calls t.views k → Contains t.keys k
 
--- the keys of an ordered set rise
+-- the keys of an ordered set are ascending
 abbrev pub ToursRise : Type 0
 ToursRise =
     (h : Home) (t : Tour) → IsTour h t → IsSteady h t.calls t.views → IsTrue (is_ordered h.options.kind)

@@ -1,4 +1,4 @@
--- A tour of a table: its first key, then the key behind each one that was answered, up to the end. (STDLIB Reference
+-- A tour of a table: its first key, then the key after each one that was returned, up to the end. (STDLIB Reference
 -- Manual, ets:first/1 and ets:next/2.)
 use Rattle.std.specs.Prelude.{ℕ, ◌≡◌, ◌≢◌, ◌<◌, ◌≤◌, ◌++◌, Contains, IsTrue, IsFalse, Option, Some, None, take, slice_get, List, [], ◌∷◌, length}
 use Rattle.term_core.specs.Datum.{Datum}
@@ -11,28 +11,28 @@ use Rattle.tables.specs.Turns.{Home, Views}
 use Rattle.walk_core.specs.Moments.{Span, span, IsGrown, ArePlaced}
 use Rattle.walks.specs.Keys.{FoundFirst, FoundNext}
 
--- A tour so far: what the session saw before each of its calls and after it, the keys that were answered, what the
--- session sees now, and the last answer, none at the end.
+-- A tour so far: what the session saw before and after each of its calls, and what it sees now; the keys that were
+-- returned, and the last result, none at the end.
 pub record Tour : Type 0 where
   pub calls : List Span
   pub keys : List Datum
   pub views : Views
   pub last : Option Datum
 
--- the key that was answered, if there is one
+-- the key that was returned, if there is one
 abbrev pub answered : Option Datum → List Datum
 answered None = []
 answered (Some k) = k ∷ []
 
--- the tour after its first call, which asks for the first key
+-- the tour after its first call, which requests the first key
 pub record Begins (h : Home) (t : Tour) : Type 0 where
   pub before : Views
   pub found : FoundFirst h 0 t.last before t.views
   pub calls : t.calls ≡ span before t.views ∷ []
   pub keys : t.keys ≡ answered t.last
 
--- A tour after one more call, which asks for the key behind the last one. Meanwhile others may have done whatever they
--- can do, and the session too.
+-- A tour after one more call, which requests the key after the last one. Between the calls, other sessions and the
+-- session itself may have done anything that they can do.
 pub record GoesOn (h : Home) (s t : Tour) : Type 0 where
   pub key : Datum
   pub asked : s.last ≡ Some key
@@ -57,7 +57,7 @@ pub record IsTurn (h : Home) (calls : List Span) (now : Views) (part moment : �
   pub stands : slice_get (now part) moment ≡ Some entry
   pub own : entry.session ≡ h.number
 
--- in each part the session fixes the table at each of the tour's turns and between them
+-- in each part, the session fixes the table at each of the tour's turns and between them
 abbrev pub IsFixedAtTurns : Home → List Span → Views → Type 0
 IsFixedAtTurns h calls now =
     (part first moment last : ℕ) → part < h.options.parts
@@ -65,7 +65,8 @@ IsFixedAtTurns h calls now =
     → 0 < fix_count h.number (take moment (now part))
 
 -- What keeps the order of a tour. A table has a part, an ordered set no other, and the session is one of its sessions.
--- Where the table isn't ordered, each object that was put in was put in at its key's part, and the session fixes it.
+-- If the table isn't ordered, each object that was inserted was inserted at its key's part, and the session fixes the
+-- table.
 pub record IsSteady (h : Home) (calls : List Span) (now : Views) : Type 0 where
   pub parts : 0 < h.options.parts
   pub whole : IsTrue (is_ordered h.options.kind) → h.options.parts ≡ 1

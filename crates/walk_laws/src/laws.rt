@@ -1,7 +1,7 @@
 //! Laws of tours, each the contract of a function that does nothing.
 ghost use Rattle.walk_laws.specs.Laws.{ToursGoOn, ToursMeetOnce, ToursMeetWhoIsThere, ToursMeetWhoStayed, ToursRise};
 
-/// A key that a tour was answered isn't refused when the session asks for the key behind it.
+/// A key that a tour returned isn't refused when the session requests the key after it.
 pub fn tours_go_on()
     ensures { ToursGoOn }
 {}
@@ -21,7 +21,7 @@ pub fn tours_meet_who_stayed()
     ensures { ToursMeetWhoStayed }
 {}
 
-/// The keys of an ordered set rise, fixed or not.
+/// The keys that a tour of an ordered set meets are ascending, whether it is fixed or not.
 pub fn tours_rise()
     ensures { ToursRise }
 {}

@@ -10,8 +10,9 @@ use tables::{Session, Table};
 use term_core::Term;
 use walks::{Query, select};
 
-/// All answers of a query on the objects of a table (ets:select/2), and the session back, which makes no other entry than
-/// those of the walk. Other sessions may turn its parts meanwhile.
+/// Returns all answers of a query for the objects of a table (ets:select/2), and hands the session back. The session
+/// makes no other entries than those of the walk. Other sessions may make turns at the parts meanwhile. Fails if an
+/// allocation fails.
 pub fn select_at<R: Wait, A: Allocator + Copy, P: Part<A> + Drop>(
     rt: &R,
     alloc: A,

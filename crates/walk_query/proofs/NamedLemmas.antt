@@ -1,4 +1,4 @@
--- What the keys are that a specification names.
+-- Which keys a specification names.
 use Rattle.std.proofs.Common.{◌≡◌, ◌↔◌, ℕ, zero, suc, Option, Some, None, List, [], ◌∷◌, refl, sym, ◌∙◌, ap, subst, inl, inr}
 use Rattle.std.specs.Prelude.{Bool, true, false, ◌||◌}
 use Rattle.std.specs.Option.{option_and_then}
@@ -41,7 +41,7 @@ key-there ks k =
     (λ there. rw there there)
     (λ new. rw new (list_any-append (is_same k) ks (k ∷ []) ∙ or-right (list_any (is_same k) ks) _ (rw (datum_cmp-same {a = k} {b = k} refl) refl)))
 
--- those that were there stay
+-- adding a key keeps those that were there
 keys-stay : (ks : List Datum) (k j : Datum) → list_any (is_same j) ks ≡ true → list_any (is_same j) (with_key ks k) ≡ true
 keys-stay ks k j h =
     by_test (list_any (is_same k) ks) (list_any (is_same j) (with_key ks k) ≡ true)
@@ -54,7 +54,7 @@ keys-apart ks k d =
     (λ there. rw there d)
     (λ new. rw new (IsDistinct-push (eq_by_cmp_equiv datum_cmp_total) ks k d new))
 
--- the first clause names a key, and the others name the keys behind it
+-- the first clause names a key, and the other clauses name the keys after it
 named-first : (found : Option Datum) (others : Datum → Option (List Datum)) (ks : List Datum) → option_and_then others found ≡ Some ks → (k : Datum) × (found ≡ Some k) × (others k ≡ Some ks)
 named-first None others ks is = absurd (cc)
 named-first (Some k) others ks is = (k, refl, is)

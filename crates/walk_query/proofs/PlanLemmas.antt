@@ -19,7 +19,7 @@ use Rattle.walk_query.proofs.OrderLemmas.{rising_alike}
 same_flips : (j k : Datum) → is_same j k ≡ is_same k j
 same_flips j k = (eq_by_cmp_equiv datum_cmp_total).symm j k
 
--- ---- code answers nothing on objects that a walk passes over
+-- ---- code has no answer for objects that a walk skips
 
 rising_differ : (p : Plan) → IsPlanned p → IsDistinct is_same p.rising
 rising_differ p planned = IsDistinct-IsPermutation is_same same_flips p.keys p.rising planned.moved planned.distinct

@@ -35,7 +35,7 @@ inside = refl
 a_variable : named_by 1 (clause (variable 0 ∷ literal one ∷ []) ∷ []) ≡ None
 a_variable = refl
 
--- a variable, '_' or a map in it
+-- a variable, '_' or a map in the key
 not_free : named_by 1 (clause (cell_of (literal one) (variable 0) ∷ []) ∷ []) ≡ None
 not_free = refl
 
@@ -45,7 +45,7 @@ with_anything = refl
 with_map : named_by 1 (clause (tuple_of (patterns_of (map_of no_fields ∷ [])) ∷ []) ∷ []) ≡ None
 with_map = refl
 
--- a keypos past a head, and a head that is no tuple, behind one that names a key
+-- a keypos past a head, and a head that is no tuple, after one that names a key
 too_few : named_by 2 (clause (literal one ∷ literal two ∷ []) ∷ clause (literal one ∷ []) ∷ []) ≡ None
 too_few = refl
 

@@ -15,14 +15,14 @@ NamedKeysDiffer =
     (keypos : ℕ) (spec : Specification) (ks : List Datum) → named_by keypos spec ≡ Some ks
     → IsDistinct is_same ks
 
--- on an object whose key isn't one of those that are named, a specification means nothing
+-- for an object whose key isn't one of those that are named, a specification has no answer
 abbrev pub UnnamedKeysMeanNothing : Type 0
 UnnamedKeysMeanNothing =
     (keypos : ℕ) (spec : Specification) (ks : List Datum) (o k : Datum) (answer : Option Datum)
     → named_by keypos spec ≡ Some ks → field_of keypos o ≡ Some k
     → IsFalse (list_any (is_same k) ks) → (Means spec o answer ↔ (answer ≡ None))
 
--- the keys that a walk by a specification visits, are one list
+-- the keys that a walk visits according to a specification are uniquely determined
 abbrev pub PlansAreOne : Type 0
 PlansAreOne =
     (keypos : ℕ) (ordered : Bool) (spec : Specification) (a b : Option (List Datum))

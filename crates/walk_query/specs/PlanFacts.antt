@@ -1,4 +1,4 @@
--- That a query asks nothing of objects that its walks pass over is a fact, so that queries can keep it.
+-- That a query has no answer for objects that its walks skip is a fact, with at most one proof, so that queries can keep it.
 use Rattle.std.specs.Prelude.{ℕ, Bool, Option, Some, None, List}
 use Rattle.std.specs.Coded.{codes}
 use Rattle.std.specs.List.{IsDistinct-prop}

@@ -12,7 +12,8 @@ use std::collections::HashSet;
 use std::hash::{BuildHasherDefault, DefaultHasher};
 use term_core::Term;
 
-/// The key among the elements of a head, if one stands at this position, which is counted from 1.
+/// Returns the key among the elements of a head at this position, which is counted from 1, or `None` if there is none.
+/// Fails if an allocation fails.
 fn key_among<A: Allocator + Copy>(
     alloc: A,
     elements: &[Pattern<A>],
@@ -30,7 +31,7 @@ fn key_among<A: Allocator + Copy>(
     }
 }
 
-/// The key that a head names, if it names one.
+/// Returns the key that a head names at this position, or `None` if it names none. Fails if an allocation fails.
 fn key_named<A: Allocator + Copy>(
     alloc: A,
     head: &Pattern<A>,
@@ -49,10 +50,11 @@ fn key_named<A: Allocator + Copy>(
     }
 }
 
-/// Keys that are looked for by their hashes.
+/// A set of keys, found by their hashes.
 type KeySet<A> = HashSet<Term<A>, BuildHasherDefault<DefaultHasher>, A>;
 
-/// Puts a key behind the others, unless it is one of them, which a set has as well.
+/// Appends a key to the list, unless it is one of the list's keys; `set` has the same keys. Fails if an allocation
+/// fails.
 fn put_key<A: Allocator + Copy>(
     keys: &mut Vec<Term<A>, A>,
     set: &mut KeySet<A>,
@@ -70,7 +72,7 @@ fn put_key<A: Allocator + Copy>(
     Ok(())
 }
 
-/// The keys that the heads of clauses name, if each names one.
+/// Returns the keys that the heads of clauses name, or `None` if a head names none. Fails if an allocation fails.
 fn keys_of<A: Allocator + Copy>(
     alloc: A,
     clauses: &[Clause<A>],
@@ -91,8 +93,8 @@ fn keys_of<A: Allocator + Copy>(
     Ok(Some(keys))
 }
 
-/// The keys that a specification names at this position, which is counted from 1: each once, in the order in which they
-/// are first named. None where a head names none. An `Err` is want of memory.
+/// Returns the keys that a specification names at this position, which is counted from 1: each once, in the order in
+/// which they are first named. Returns `None` if a head names none. Fails if an allocation fails.
 pub fn named_keys<A: Allocator + Copy>(
     alloc: A,
     specification: &Spec<A>,

@@ -6,12 +6,12 @@ pub fn named_keys_differ()
     ensures { NamedKeysDiffer }
 {}
 
-/// On an object whose key isn't named, a specification that names keys means nothing.
+/// For an object whose key isn't named, a specification that names keys has no answer.
 pub fn unnamed_keys_mean_nothing()
     ensures { UnnamedKeysMeanNothing }
 {}
 
-/// The keys that a walk by a specification visits, are one list.
+/// The keys that a walk visits according to a specification are uniquely determined.
 pub fn plans_are_one()
     ensures { PlansAreOne }
 {}

@@ -1,12 +1,11 @@
-//! The keys that a match specification names, where each of its heads names one, and queries that visit these alone.
+//! The keys that a match specification names, if each of its heads names one, and queries that visit only these.
 //!
-//! The contract: `named_keys` gives the keys that `named_by` of `specs/Named.antt` says. The laws: they are distinct,
-//! and on an object with another key the specification means nothing (`specs/Laws.antt`). So the code that
-//! `compile_named` gives answers nothing there (`specs/Plan.antt`).
+//! The contract: `named_keys` returns the keys that `named_by` of `specs/Named.antt` says. The laws: they are distinct,
+//! and for an object with another key the specification has no answer (`specs/Laws.antt`). So the code that
+//! `compile_named` returns has no answer there (`specs/Plan.antt`).
 //!
 //! - The key of each head, and the keys of all: `keys.rt`. The laws: `laws.rt`.
-//! - The keys in both orders in which walks visit them, and the code beside them: `plan.rt`; both in a query:
-//!   `query.rt`.
+//! - The keys in both orders in which walks visit them, with the code: `plan.rt`; both in a query: `query.rt`.
 #![tactic(auto)]
 
 mod keys;

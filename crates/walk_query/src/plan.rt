@@ -1,4 +1,4 @@
-//! Named keys as a walk visits them, and the code of a specification beside them.
+//! Named keys in the order in which a walk visits them, and the code of a specification with them.
 ghost use Rattle.std.specs.Prelude.{ℕ, ◌≡◌, Option, IfOk, IfSome, option_map};
 ghost use Rattle.std.specs.List.{IsDistinct};
 ghost use Rattle.term_core.specs.Datum.{Datum};
@@ -46,7 +46,7 @@ impl<A: Allocator> NamedKeys<A> {
     ghost use Rattle.term_operand.specs.Order.{is_same};
     ghost use Rattle.walk_query.specs.Plan.{IsPlanned, keys_at};
 
-    /// These keys, named at this position. An `Err` is want of memory.
+    /// Makes the plan of distinct keys that are named at this position. Fails if an allocation fails.
     fn new(alloc: A, keypos: u16, keys: Vec<Term<A>, A>) -> Result<Self, AllocError>
     where
         A: Copy,
@@ -62,8 +62,9 @@ impl<A: Allocator> NamedKeys<A> {
         })
     }
 
-    /// The keys that a walk visits, one after the other, of a table with this `keypos`: in an ordered one by rising
-    /// key, else in the order in which they are first named. None at another position than theirs.
+    /// Returns the keys that a walk visits, one after the other, in a table with this `keypos`: in ascending order if
+    /// the table is `ordered`, else in the order in which they are first named. Returns `None` at another position than
+    /// the plan's.
     pub fn keys_at(&self, keypos: u16, ordered: bool) -> Option<&[Term<A>]>
         ensures keys { option_map (λ ks. ks.now) result ≡ keys_at self.now keypos ordered }
         ensures planned { IsPlanned self.now }
@@ -79,8 +80,8 @@ impl<A: Allocator> NamedKeys<A> {
     }
 }
 
-/// The plan of the keys that a specification names at this position, if each of its heads names one. An `Err` is want
-/// of memory.
+/// Returns the plan of the keys that a specification names at this position, or `None` if one of its heads names none.
+/// Fails if an allocation fails.
 fn plan_of<A: Allocator + Copy>(
     alloc: A,
     specification: &Spec<A>,
@@ -98,8 +99,8 @@ fn plan_of<A: Allocator + Copy>(
     }
 }
 
-/// The code of a specification, verified, and the keys that the specification names at this position, if each of its
-/// heads names one. An `Err` is want of memory.
+/// Returns the verified code of a specification, and the keys that the specification names at this position, or `None`
+/// if one of its heads names none. Fails if an allocation fails.
 pub fn compile_named<A: Allocator + Copy>(
     alloc: A,
     specification: &Spec<A>,

@@ -8,14 +8,23 @@ use std::alloc::{AllocError, Allocator, Global};
 use term_core::Term;
 use verifier::Verified;
 
-/// What a walk asks of each object: code, which answers a term or nothing.
-#[derive(Drop)]
+/// What a walk evaluates for each object: code, which answers a term or nothing.
 pub struct Query<A: Allocator = Global> {
     /// The code.
     pub code: Verified<A>,
-    /// The keys that it is asked of alone, if any are named; on an object with another key it answers nothing.
+    /// The keys whose objects alone are evaluated, if any are named; the code has no answer for an object with another
+    /// key.
     pub named: Option<NamedKeys<A>>,
     ghost kept: { IsPlanFor code named } by { plan_prop code named },
+}
+
+/// By hand: a function that drops one has one call in its proof, and not a case for each way in which its parts are dropped.
+impl<A: Allocator> Drop for Query<A> {
+    fn drop(self) {
+        let Query { code, named } = self;
+        drop(code);
+        drop(named);
+    }
 }
 
 impl<A: Allocator> Query<A> {
@@ -25,7 +34,7 @@ impl<A: Allocator> Query<A> {
     ghost use Rattle.mspec_meaning.specs.Meaning.{Means};
     ghost use Rattle.walk_query.specs.Plan.{IsPlanOf, plan_at};
 
-    /// A query that is asked of all objects of a table.
+    /// Returns a query that is evaluated for all objects of a table.
     pub fn new(code: Verified<A>) -> Self
         ensures code { result.code ≡ code }
         ensures unnamed { result.named ≡ None }
@@ -33,8 +42,8 @@ impl<A: Allocator> Query<A> {
         Query { code, named: None }
     }
 
-    /// A query that asks what a specification means. In a table with this `keypos` it is asked at the keys alone that
-    /// the specification names there, if each of its heads names one. An `Err` is want of memory.
+    /// Returns a query with the meaning of a specification. In a table with this `keypos` it is evaluated only for the
+    /// keys that the specification names there, if each of its heads names one. Fails if an allocation fails.
     pub fn from_spec(alloc: A, specification: &Spec<A>, keypos: u16) -> Result<Self, AllocError>
     where
         A: Copy,
@@ -49,8 +58,9 @@ impl<A: Allocator> Query<A> {
         Ok(Query { code, named })
     }
 
-    /// The keys that a walk visits, one after the other, of a table with this `keypos`: of an ordered one by rising
-    /// key, else in the order in which they are first named. None where all objects are visited.
+    /// Returns the keys that a walk visits, one after the other, in a table with this `keypos`: in ascending order if
+    /// the table is `ordered`, else in the order in which they are first named. Returns `None` if all objects are
+    /// visited.
     pub fn keys_at(&self, keypos: u16, ordered: bool) -> Option<&[Term<A>]>
         ensures { option_map (λ ks. ks.now) result ≡ plan_at self.now.named keypos ordered }
     {

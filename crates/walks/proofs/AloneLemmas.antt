@@ -26,7 +26,7 @@ use Rattle.walks.specs.Alone.{IsAlong, IsPieceOf, IsSeen}
 use Rattle.walks.proofs.GoneLemmas.{Gone, goes_gone}
 use Rattle.walks.proofs.PlainLemmas.{first_there, starts, table_of}
 
--- a table by the session's options
+-- a table is the one with the session's options and its own states
 pub seen_table : (h : Home) (t : TableState) (v : Views) → IsSeen h t v → t ≡ table_of h t.states
 seen_table h t v seen = ap (λ (o : Options). record { options = o; states = t.states }) seen.options
 
@@ -41,7 +41,7 @@ none_made : (f : Datum → Option Datum) (vs : List Sight) → made f 0 vs ≡ [
 none_made f [] = refl
 none_made f (v ∷ vs) = refl
 
--- no visit is made behind a piece
+-- no visit is left to make after a piece
 none_left : (f : Datum → Option Datum) (t : TableState) (plan : Option (List Datum)) (limit : ℕ) (given kept : List Datum) (at : Position) → IsPiece limit given at kept → made f (limit - length (given ++ kept)) (sights_from t plan at) ≡ []
 none_left f t plan limit given kept at piece =
     by_test (nat_lt (length given) limit) _
@@ -53,7 +53,7 @@ abbrev piece_by : (f : Datum → Option Datum) → ℕ → List Datum → Positi
 piece_by f limit kept at visits =
     record { given = take limit (kept ++ answers_in f visits); kept = drop limit (kept ++ answers_in f visits); at = fold (λ before v. v.behind) at visits }
 
--- what visits came to, as a piece
+-- what visits returned, as a piece
 piece_gone : (f : Datum → Option Datum) (h : Home) (states : ℕ → PartState) (plan : Option (List Datum)) (limit : ℕ) (v u : Views) (at later : Position) (kept given rest : List Datum)
     → Gone f h states plan (up_to limit) (way v at kept) (way u later (given ++ rest)) → IsPiece limit given later rest
     → piece_of f limit kept at (sights_from (table_of h states) plan at) ≡ record { given = given; kept = rest; at = later }
@@ -99,7 +99,7 @@ steps_alone h t q limit at kept s v u alone some seen there steps =
     subst (λ (x : TableState). IsPieceOf (piece_of (answer_of q.code) limit kept at (sights_from x (plan_of q h.options) at)) s × IsAlong h q (piece_of (answer_of q.code) limit kept at (sights_from x (plan_of q h.options) at)).at × IsSeen h x u) (sym is)
     (step_of_states h t.states q limit at kept s v u alone some (subst (λ (x : TableState). IsSeen h x v) is seen) there steps)
 
--- where the walk of a continuation can be
+-- a position within the walk is one where the walk of a continuation can be
 pub within_along : {A B : Type 0} (h : Home) (q : Query A) (at : walk_position.Position B) → IsWithin h.options q at → IsAlong h q (position_of at)
 within_along h q at within = within
 

@@ -1,4 +1,4 @@
--- What a visit of a walk that deletes looks at, where objects are gone already, and which keys are done behind it.
+-- What a visit of a walk that deletes looks at when objects are deleted already, and which keys are done after it.
 use Rattle.std.proofs.Common.{◌≡◌, ◌≢◌, ◌<◌, ◌+◌, ◌∙◌, ℕ, Option, Some, None, List, [], ◌∷◌, refl, sym, ap, arith, get_or}
 use Rattle.std.proofs.Math.Path.{fun_ext}
 use Rattle.std.specs.Prelude.{IsTrue, Bool, true, false, ◌&&◌, ◌||◌, ◌==◌, if◌then◌else◌, nat_lt}
@@ -28,7 +28,7 @@ use Rattle.walks.proofs.DoneLemmas.{SameVisit, done_at, done_elsewhere, done_in,
 use Rattle.walks.proofs.NamedDone.{named_anew, named_elsewhere, named_more}
 use Rattle.walks.proofs.PlainLemmas.{plain}
 
--- where a walk can have come from its beginning: it goes through parts only where no keys are named
+-- a position that a walk can reach from its beginning: it goes through parts only if no keys are named
 abbrev pub IsOnWay : Option (List Datum) → Position → Type 0
 IsOnWay plan (InPart part cursor) = plan ≡ None
 IsOnWay plan (AtNamed n) = Unit {0}
@@ -52,7 +52,7 @@ next_on_way h p plan Over next way = tt
 unnamed : (k : List Datum) → Some k ≡ None → ⊥
 unnamed k e = cc
 
--- before a walk no key is done
+-- at the beginning of a walk no key is done
 pub none_done : (o : Settings) (plan : Option (List Datum)) (k : ℕ) → done_in o plan (first_position plan) k ≡ (λ j. false)
 none_done o None k = of (nat_lt k 0) (k == 0) (le-ltb k 0 (omega arith))
   where
@@ -71,7 +71,7 @@ none_done o (Some (i ∷ ks)) k = fun_ext (λ (j : Datum). of (part_of o j == k)
     of true = refl
     of false = refl
 
--- a visit looks at keys that aren't done, and so finds what it would find where nothing was gone
+-- a visit looks at keys that aren't done, and so finds what it would find if nothing were deleted
 pub same_at : (h : Home) (p : Program) (states : ℕ → PartState) (x : PartState) (wanted : ℕ) (at : Position) (plan : Option (List Datum)) → IsPlan plan → IsThere h.options.parts (named_count plan) at → at ≢ Over
     → IsState (settings_of h.options) (states (part_at (plain h Deletes p plan) at))
     → x ≡ cut_state (settings_of h.options) p (done_in (settings_of h.options) plan at (part_at (plain h Deletes p plan) at)) (states (part_at (plain h Deletes p plan) at))
@@ -86,7 +86,7 @@ same_at h p states x wanted (AtNamed n) (Some ks) distinct there more state is =
     same_named o p (states part) x (get_or ks n nil) (done_in o (Some ks) (AtNamed n) part) wanted state is (named_anew o ks n part distinct there)
 same_at h p states x wanted Over plan distinct there more state is = absurd (more refl)
 
--- in its part those that it covers are done behind it
+-- the keys of its part that a visit covers are done after it
 pub more_at : (h : Home) (p : Program) (base : ℕ) (old : History) (next : Option Cursor) (at : Position) (plan : Option (List Datum)) → IsOnWay plan at → IsThere h.options.parts (named_count plan) at → at ≢ Over
     → IsTrue (is_inside (settings_of h.options) (state_after (settings_of h.options) old) (scope_at (plain h Deletes p plan) at))
     → LeadsTo (settings_of h.options) base (scope_at (plain h Deletes p plan) at) next
@@ -101,7 +101,7 @@ more_at h p base old next (AtNamed n) None way there more inside leads = absurd 
 more_at h p base old next (AtNamed n) (Some ks) way there more inside leads = named_more (settings_of h.options) ks n there
 more_at h p base old next Over plan way there more inside leads = absurd (more refl)
 
--- and at the other parts those that were
+-- at the other parts, the same keys are done after a visit as before
 pub elsewhere_at : (h : Home) (p : Program) (k : ℕ) (next : Option Cursor) (at : Position) (plan : Option (List Datum)) → IsOnWay plan at → IsThere h.options.parts (named_count plan) at → at ≢ Over → k < h.options.parts
     → k ≢ part_at (plain h Deletes p plan) at
     → done_in (settings_of h.options) plan (next_position (plain h Deletes p plan) at next) k ≡ done_in (settings_of h.options) plan at k

@@ -31,7 +31,7 @@ use Rattle.walks.specs.Whole.{Wholly}
 use Rattle.walks.proofs.WholeLemmas.{wholly_answers, wholly_gathers, wholly_once}
 use Rattle.walks.proofs.GoingLemmas.{GoesBy, is_walk, no_stranger}
 
--- two counts together
+-- the sum of two limited counts, limited again, is the limited sum
 together : (limit m n a b c : ℕ) → a ≡ min m limit → b ≡ min n limit → c ≡ min (a + b) limit → c ≡ min (m + n) limit
 together limit m n a b c is_a is_b is_c = omega (arith, is_a, is_b, is_c)
 
@@ -52,13 +52,13 @@ count_stops h w first at total before now then part act legal so_far turned v b 
     let t = turned s.0 s.1 in
     (t.0, t.1, (s.2.0, (s.0, s.2.1, turned_drifts h part act s.0 t.0 (legal s.0 s.1) t.2), s.2.2))
 
--- what is counted goes
+-- visits that count are visits of the walk
 pub count_goes : (h : Home) (w : Walk) (first at : Position) (total : ℕ) (before now : Views → Type 0) (v : Views) → before v → Follows before now (CountsTo h w first at total) → (found : List Datum) × Follows (λ u. u ≡ v) now (GoesBy h w whole first [] at found)
 count_goes h w first at total before now v b so_far =
     let s = so_far v b in
     (s.2.0, λ u same. (s.0, s.1, subst (λ (x : Views). Goes h w whole (way x first []) (way s.0 at s.2.0)) (sym same) s.2.1))
 
--- a walk that can go on from where it begins has no visit that is refused but for want of memory
+-- if a walk can go on from where it begins, its visits can only run out of memory
 pub count_foreign : (h : Home) (w : Walk) (first at : Position) (total : ℕ) (before now then : Views → Type 0) (f : Fault) → IsAt h w → IsWalk w → at ≢ Over → f ≢ fault.Memory → Follows before now (CountsTo h w first at total) → Follows now then (Turned h (part_at w at) (Visit w.purpose w.program (scope_at w at) most_counted) (option_map Refused (refusal_of f))) → (v : Views) → before v → IsPosition w v first → ⊥
 count_foreign h w first at total before now then f is_at walk open_still other so_far turned v b position =
     let c = count_goes h w first at total before now v b so_far in
@@ -75,7 +75,7 @@ tallied h w first start at total before now is_at is_first is_over legal counts 
     let there : AreLegal h.options f.0 = subst (λ (o : Options). AreLegal o f.0) (sym is_at.options) (grown_legal w.options v f.0 (goes_grown h w whole (way v first []) (way f.0 Over f.2.0) is_at (subst (λ (o : Options). AreLegal o v) is_at.options (legal v b)) f.2.1)) in
     (f.0, f.1, (f.2.0, (f.0, f.2.1, drifts_nowhere h f.0 there), f.2.2)))
 
--- a walk that ended or was refused
+-- a walk that came to its end, or failed
 pub tally_stops : {X Y : Type 0} (r : Result X Y) (ended : X → ℕ) (h : Home) (w : Walk) (total : Y → ℕ) (before now : Views → Type 0) → IfOk r (λ x. Follows before now (StopsAtCount h w (start_of w) Over (ended x))) → IfErr r (λ y. Follows before now (λ v u. (at : Position) × StopsAtCount h w (start_of w) at (total y) v u)) → Follows before now (StopsAnywhere h w whole)
 tally_stops (Ok x) ended h w total before now done refused = λ v b. let f = done v b in (f.0, f.1, (Over, f.2.0, f.2.1))
 tally_stops (Err y) ended h w total before now done refused = λ v b. let f = refused v b in (f.0, f.1, (f.2.0, f.2.1.0, f.2.1.1))
@@ -96,7 +96,7 @@ count_given_up h w own total before fixed last now is_at walk legal fixes stops 
     let x : Wholly h w whole t.2.0 t.2.1.0 v r.0 = record { own = own; fixed = f.0; fixes = f.2; last = t.0; visits = t.2.1.1; releases = r.2 } in
     (r.0, r.1, (t.2.0, t.2.1.0, t.2.1.2, x, wholly_once h w whole t.2.0 t.2.1.0 v r.0 is_at walk (legal v b) x, λ placed. wholly_gathers h w whole t.2.0 t.2.1.0 v r.0 is_at walk (legal v b) x placed))
 
--- a walk that can go on from where it begins is refused for want of memory alone
+-- a walk that can go on from where it begins can only run out of memory
 pub scarce_alone : (w : Walk) (at : Position) (f : Fault) (before : Views → Type 0) → ∥ ((v : Views) × before v) ∥₁ → ((v : Views) → before v → IsPosition w v at) → (f ≢ fault.Memory → (v : Views) → before v → IsPosition w v at → ⊥) → f ≡ fault.Memory
 scarce_alone w at fault.Memory before seen well other = refl
 scarce_alone w at fault.TooSmall before seen well other = absurd (∥∥₁_elim seen (hlevel props) (λ s. other (λ e. cc) s.0 s.1 (well s.0 s.1)))

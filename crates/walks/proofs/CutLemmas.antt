@@ -1,4 +1,4 @@
--- Rows of which the objects that answer true are gone, at some of the keys.
+-- Rows from which the objects for which a query returns true are deleted, at some of the keys.
 use Rattle.std.proofs.Common.{◌≡◌, ℕ, suc, List, [], ◌∷◌, refl, sym, ◌∙◌, ap, arith, length}
 use Rattle.std.specs.Prelude.{IsTrue, Bool, true, false, not, ◌||◌, if◌then◌else◌, filter, All}
 use Rattle.std.specs.List.{list_any}
@@ -24,14 +24,14 @@ use Rattle.part_core.proofs.KeyLemmas.{by_test}
 use Rattle.part_core.proofs.RowLemmas.{rows_by, among_passing}
 use Rattle.part_core.proofs.StateLemmas.{after_replied, visited_is_covered}
 
--- the objects of a key without those that answer true, where a test says so
+-- the objects of a key without those for which the query returns true, if a test says so
 abbrev pub cut_objects : Program → Bool → List Datum → List Datum
 cut_objects p here os = if here then filter (λ t. not (is_true p t)) os else os
 
 abbrev pub cut : Program → (Datum → Bool) → List Row → List Row
 cut p done rows = rows_by (λ j os. cut_objects p (done j) os) rows
 
--- the state of a part in which they are gone
+-- the state of a part in which these objects are deleted
 abbrev pub cut_state : Settings → Program → (Datum → Bool) → PartState → PartState
 cut_state o p done s = state_with o s (cut p done s.rows) s.fixes
 
@@ -42,7 +42,7 @@ cut_length p done (r ∷ rows) = ap suc (cut_length p done rows)
 pub cut_shows : (o : Settings) (p : Program) (done : Datum → Bool) (s : PartState) → IsState o s → cut_state o p done s ≡ record { rows = kept_rows s.fixes (cut p done s.rows); fixes = s.fixes; slots = s.slots; base = s.base }
 cut_shows o p done s state = kept_after o s (cut p done s.rows) state (omega (arith, cut_length p done s.rows))
 
--- nothing is gone where no key is done
+-- nothing is deleted if no key is done
 pub cut_none : (p : Program) (rows : List Row) → cut p (λ j. false) rows ≡ rows
 cut_none p [] = refl
 cut_none p (r ∷ rows) = ap (λ (rs : List Row). r ∷ rs) (cut_none p rows)
@@ -124,7 +124,7 @@ cut_same p c d (r ∷ rows) same =
     ap (λ (b : Bool). (r.0, cut_objects p b r.1) ∷ cut p c rows) (All-head (λ (v : Row). c v.0 ≡ d v.0) r rows same)
     ∙ ap (λ (rs : List Row). (r.0, cut_objects p (d r.0) r.1) ∷ rs) (cut_same p c d rows (All-tail (λ (v : Row). c v.0 ≡ d v.0) r rows same))
 
--- those of the rows of some keys
+-- deleting at the keys of some rows is deleting at the keys that select these rows
 among_rows : (p : Program) (c : Datum → Bool) (rows : List Row) → cut p (λ j. list_any (is_same j) (keys_of (filter (λ r. c r.0) rows))) rows ≡ cut p c rows
 among_rows p c rows =
     cut_same p (λ j. list_any (is_same j) (keys_of (filter (λ (r : Row). c r.0) rows))) c rows
@@ -132,7 +132,7 @@ among_rows p c rows =
 
 -- ---- a visit that deletes
 
--- what it leaves, of a state in which objects are gone already
+-- the state after a visit that deletes, starting from one in which objects are deleted already
 pub deleted_after : (o : Settings) (p : Program) (done : Datum → Bool) (s x : PartState) (n : ℕ) (scope : Scope) (wanted : ℕ) (said : Said) → IsState o s → IsState o x → x ≡ cut_state o p done s
     → IsTrue (is_inside o x scope) → reply_of o x n (Visit Deletes p scope wanted) ≡ Replied said
     → after o x n (Visit Deletes p scope wanted) ≡ cut_state o p (λ j. done j || covers o scope (next_of o x Deletes p scope wanted) j) s

@@ -55,8 +55,8 @@ use Rattle.walks.proofs.WhollyLemmas.{fixed_once, held_state, held_where, held_w
 
 -- ---- visits that delete
 
--- the walk can have come there, and the parts are as they were, without the objects that answer true at the keys that
--- are done
+-- the walk can have reached this position, and the parts are as they were, without the objects for which the query
+-- returns true at the keys that are done
 pub record AreCut (h : Home) (p : Program) (states : ℕ → PartState) (plan : Option (List Datum)) (at : Position) (v : Views) : Type 0 where
   pub way : IsOnWay plan at
   pub left : (k : ℕ) → k < h.options.parts → state_after (settings_of h.options) (v k) ≡ cut_state (settings_of h.options) p (done_in (settings_of h.options) plan at k) (states k)
@@ -105,7 +105,7 @@ cut_visit f h p states plan wanted a b same alone some distinct all are there mo
       },
     )
 
--- before a walk nothing is gone
+-- before a walk nothing is deleted
 cut_first : (h : Home) (p : Program) (states : ℕ → PartState) (plan : Option (List Datum)) (v : Views) → AllStates h states → AreStates h (table_of h states) v → AreCut h p states plan (first_position plan) v
 cut_first h p states plan v all are =
     let o = settings_of h.options in
@@ -130,7 +130,7 @@ goes_longer h w wanted a c k (goes {b} g more visit) =
     ))
     (λ other. (before.0, visit.turned.rest k (eqb-false k (part_at w b.at) other) ∙ before.1))
 
--- a part that the call fixed first, released
+-- the state of a part that the call fixed first, after it is released
 cut_released : (h : Home) (p : Program) (done : Datum → Bool) (old new : History) (s : PartState) → IsTrue h.alone → h.number < length s.fixes → IsState (settings_of h.options) (fixed_once h.number s)
     → state_after (settings_of h.options) old ≡ cut_state (settings_of h.options) p done (fixed_once h.number s) → TurnedAt h old Unfix (Some (Replied Nothing)) new
     → state_after (settings_of h.options) new ≡ cut_state (settings_of h.options) p done s
@@ -187,12 +187,12 @@ removed_states f h p states plan wanted gained v u same alone some distinct are 
           (all k inside) (ap (state_after o) stays_so ∙ gone.1.left k inside),
     )
 
--- the keys that the walk meets, in a table
+-- the keys that the walk meets, written with the table's settings
 met_is : (t : TableState) (plan : Option (List Datum)) (k : ℕ) → (λ j. is_met t plan k j) ≡ met_in (settings_of t.options) plan k
 met_is t None k = refl
 met_is t (Some ks) k = refl
 
--- no key of a query's is named twice
+-- the keys that a query names are distinct
 distinct_plan : (code : Program) (keypos : ℕ) (plan : Option (List Datum)) → AreVisited code keypos plan → IsPlan plan
 distinct_plan code keypos None visited = tt
 distinct_plan code keypos (Some ks) visited = visited.0

@@ -19,7 +19,7 @@ use Rattle.part_core.specs.Replies.{yield_of}
 use Rattle.part_core.specs.Rows.{Row, PartState}
 use Rattle.part_core.specs.Settings.{class_at, part_of}
 use Rattle.part_core.specs.States.{IsState}
-use Rattle.part_core.specs.Visits.{answers_of, is_behind, is_inside, most_rows, next_key, next_of, rows_behind, rows_up_to, yield_of_rows}
+use Rattle.part_core.specs.Visits.{answers_of, is_beyond, is_inside, most_rows, next_key, next_of, following_rows, rows_up_to, yield_of_rows}
 use Rattle.part_core.proofs.KeyLemmas.{by_test}
 use Rattle.tables.specs.declared.options.Options.{Options}
 use Rattle.tables.specs.Options.{settings_of}
@@ -28,24 +28,24 @@ use Rattle.walk_core.specs.Walk.Position.{InPart, AtNamed, Over}
 use Rattle.walk_core.proofs.PositionLemmas.{done_next}
 use Rattle.walks.proofs.CutLemmas.{cut_nowhere, cut_shows, cut_state, rows_stay}
 
--- whether a walk meets a key of a part: any, or one that is named, in its own part
+-- the walk meets a key of a part: any key, or, if keys are named, one of these, in its own part
 abbrev pub met_in : Settings → Option (List Datum) → ℕ → Datum → Bool
 met_in o None k = λ j. true
 met_in o (Some ks) k = λ j. (part_of o j == k) && list_any (is_same j) ks
 
--- whether it has done the key: all of the parts before, and what its cursor leaves behind; or the first named ones
+-- the walk has done the key: all keys of the parts before, and those that its cursor has passed; or the first named ones
 abbrev pub done_in : Settings → Option (List Datum) → Position → ℕ → Datum → Bool
 done_in o plan (InPart part cursor) k =
     if nat_lt k part then (λ j. true) else if k == part then is_passed o cursor else (λ j. false)
 done_in o plan (AtNamed n) k = λ j. (part_of o j == k) && is_named_below plan n j
 done_in o plan Over k = met_in o plan k
 
--- what is left behind where a walk goes on, all where it doesn't
+-- the keys that a cursor has passed; all keys without a cursor
 abbrev pub left_behind : Settings → Option Cursor → Datum → Bool
 left_behind o None j = true
 left_behind o (Some c) j = is_passed o (Some c) j
 
--- ---- a visit covers what is left behind more
+-- ---- a visit covers what its cursor passes in addition
 
 not_below : (n : ℕ) → nat_lt n n ≡ false
 not_below n = le-ltb n n (omega arith)
@@ -82,7 +82,7 @@ left_more o p base cursor next old j inside leads =
         let low : nat_lt n (n + 1) ≡ true = lt-ltb n (n + 1) (omega arith) in
         ap (λ (at : Position). is_done (walk_to o p (n + 1)) at j) over ∙ ap (λ (b : Bool). nat_le 0 n && b) low ∙ ap (λ (b : Bool). b && true) (le-leb 0 n (omega arith))
 
--- ---- the keys that are done behind a visit of a part
+-- ---- the keys that are done after a visit of a part
 
 pub done_at : (o : Settings) (plan : Option (List Datum)) (part : ℕ) (cursor : Option Cursor) → done_in o plan (InPart part cursor) part ≡ is_passed o cursor
 done_at o plan part cursor = rw (not_below part, itself part) refl
@@ -126,7 +126,7 @@ done_elsewhere o parts part k cursor None inside other =
 
 -- ---- what a visit looks at is as it was
 
--- a visit finds what it would find where nothing was gone, and goes on where it would
+-- a visit finds what it would find if nothing were deleted, and goes on at the same position
 pub record SameVisit (o : Settings) (p : Program) (s x : PartState) (scope : Scope) (wanted : ℕ) : Type 0 where
   pub base : x.base ≡ s.base
   pub next : next_of o x Deletes p scope wanted ≡ next_of o s Deletes p scope wanted
@@ -147,7 +147,7 @@ same_visit o p s x (Some (Class base class)) wanted state is = record {
       (λ j here. le-ltb (class_at o base j) class (omega (arith, eqb-true (class_at o base j) class here))) state.live);
 }
 same_visit o p s x (Some (Behind k)) wanted state is =
-    let same : rows_behind k x.rows ≡ rows_behind k s.rows = ap (λ (y : PartState). rows_behind k y.rows) is ∙ rows_stay p (is_behind k) (is_passed o (Some (Behind k))) s.fixes s.rows (λ j behind. ap not behind) state.live in
+    let same : following_rows k x.rows ≡ following_rows k s.rows = ap (λ (y : PartState). following_rows k y.rows) is ∙ rows_stay p (is_beyond k) (is_passed o (Some (Behind k))) s.fixes s.rows (λ j behind. ap not behind) state.live in
     record {
       base = ap (λ (y : PartState). y.base) (is ∙ cut_shows o p (is_passed o (Some (Behind k))) s state);
       next = ap (λ (rows : List Row). next_key (answers_of Deletes p) wanted (rows_up_to (answers_of Deletes p) wanted most_rows rows)) same;

@@ -1,4 +1,4 @@
--- Visits one behind the other, by what the session sees.
+-- Visits one after the other, in terms of what the session sees.
 use Rattle.std.proofs.Common.{arith, ◌≡◌, ◌≢◌, ℕ, ◌<◌, refl, sym, ◌∙◌, option_map, Option, Some, None, List, is_some}
 use Rattle.std.specs.Prelude.{IsTrue, IsFalse, unwrap_or}
 use Rattle.std.proofs.lemmas.Bool.{true≢false}
@@ -28,33 +28,33 @@ use Rattle.walk_query.specs.Plan.{AreVisited}
 use Rattle.walks.specs.Query.{plan_of, walk_of}
 use Rattle.walk_core.proofs.TurnLemmas.{turned_drifts, drifts_nowhere, never_outside}
 
--- a walk by what the session sees: visits from where it began to where it is
+-- a walk in terms of what the session sees: visits from where it began to where it is
 abbrev pub GoesBy : (h : Home) (w : Walk) (wanted : ℕ → ℕ) (at : Position) (gained : List Datum) (later : Position) (more : List Datum) → Views → Views → Type 0
 GoesBy h w wanted at gained later more v u = Goes h w wanted (way v at gained) (way u later more)
 
 pub goes_nowhere : (h : Home) (w : Walk) (wanted : ℕ → ℕ) (at : Position) (gained : List Datum) (now : Views → Type 0) → Follows now now (GoesBy h w wanted at gained at gained)
 goes_nowhere h w wanted at gained now v b = (v, b, stays)
 
--- one visit more
+-- one more visit
 pub goes_once : (h : Home) (w : Walk) (wanted : ℕ → ℕ) (first at later : Position) (begun gained more : List Datum) (before now then : Views → Type 0) → at ≢ Over → Follows before now (GoesBy h w wanted first begun at gained) → Follows now then (λ v u. Visits h w wanted (way v at gained) (way u later more)) → Follows before then (GoesBy h w wanted first begun later more)
 goes_once h w wanted first at later begun gained more before now then open_still so_far visit v b =
     let s = so_far v b in
     let t = visit s.0 s.1 in
     (t.0, t.1, goes s.2 open_still t.2)
 
--- visits, and then one that was refused for want of memory
+-- visits, and then one that ran out of memory
 pub stops_refused : (h : Home) (w : Walk) (wanted : ℕ → ℕ) (first at : Position) (begun gained : List Datum) (before now then : Views → Type 0) (part : ℕ) (act : Act) → ((v : Views) → now v → AreLegal h.options v) → Follows before now (GoesBy h w wanted first begun at gained) → Follows now then (Turned h part act None) → Follows before then (λ v u. Stops h w wanted (way v first begun) at gained u)
 stops_refused h w wanted first at begun gained before now then part act legal so_far turned v b =
     let s = so_far v b in
     let t = turned s.0 s.1 in
     (t.0, t.1, (s.0, s.2, turned_drifts h part act s.0 t.0 (legal s.0 s.1) t.2))
 
--- visits, and then none
+-- visits, and then no further one
 pub stops_there : (h : Home) (w : Walk) (wanted : ℕ → ℕ) (first at : Position) (begun gained : List Datum) (before now : Views → Type 0) → ((v : Views) → now v → AreLegal h.options v) → Follows before now (GoesBy h w wanted first begun at gained) → Follows before now (λ v u. Stops h w wanted (way v first begun) at gained u)
 stops_there h w wanted first at begun gained before now legal so_far v b =
     let s = so_far v b in (s.0, s.1, (s.0, s.2, drifts_nowhere h s.0 (legal s.0 s.1)))
 
--- a walk that can go on from where it begins has no visit that is refused but for want of memory
+-- if a walk can go on from where it begins, its visits can only run out of memory
 pub no_stranger : (h : Home) (w : Walk) (wanted : ℕ → ℕ) (first at : Position) (begun gained : List Datum) (before now then : Views → Type 0) (n : ℕ) (f : Fault) → IsAt h w → IsWalk w → at ≢ Over → f ≢ fault.Memory → Follows before now (GoesBy h w wanted first begun at gained) → Follows now then (Turned h (part_at w at) (Visit w.purpose w.program (scope_at w at) n) (option_map Refused (refusal_of f))) → (v : Views) → before v → IsPosition w v first → ⊥
 no_stranger h w wanted first at begun gained before now then n f is_at walk open_still other so_far turned v b position =
     let s = so_far v b in
@@ -80,7 +80,7 @@ there_is : (found : Option Datum) → IsTrue (is_some found) → found ≡ Some 
 there_is None some = absurd (true≢false (sym some))
 there_is (Some k) some = refl
 
--- on an object that the walk passes over nothing is answered
+-- for an object that the walk skips, the code has no answer
 plan_silent : (w : Walk) (plan : Option (List Datum)) (t : Datum) → AreVisited w.program w.options.keypos plan → IsTrue (is_object (settings_of w.options) t) → IsTrue (is_in_parts w w.to (key_of (settings_of w.options) t)) → IsFalse (is_all w plan (key_of (settings_of w.options) t)) → answer_of w.program t ≡ None
 plan_silent w None t visited object inside other = absurd (true≢false (sym inside ∙ other))
 plan_silent w (Some ks) t visited object inside other =

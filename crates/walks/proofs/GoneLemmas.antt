@@ -1,4 +1,4 @@
--- Visits one behind the other, of a session that is alone and whose visits change no state.
+-- Visits one after the other, of a session that is alone and whose visits change no state.
 use Rattle.std.proofs.Common.{◌≡◌, ◌≢◌, ◌<◌, ◌+◌, ◌-◌, ◌==◌, ℕ, Option, Some, List, [], ◌∷◌, ◌++◌, refl, sym, subst, ◌∙◌, ap, arith, flat_map, length, fold}
 use Rattle.std.specs.Prelude.{IsTrue, filter_map}
 use Rattle.std.proofs.lemmas.Bool.{eqb-true, eqb-false}
@@ -37,7 +37,7 @@ use Rattle.walks.proofs.PlainLemmas.{part_inside, plain, table_of, there_next, w
 
 -- ---- one visit
 
--- what is known of an answered visit, by the state that it met
+-- what is known of a visit that was not refused, in terms of the state before it
 pub record Told (h : Home) (purpose : Purpose) (p : Program) (scope : Scope) (wanted : ℕ) (said : Said) (new : History) (s : PartState) : Type 0 where
   pub some : 0 < wanted
   pub state : IsState (settings_of h.options) s
@@ -66,7 +66,7 @@ visit_told h purpose p scope wanted said old new alone t =
       leaves = turned.1;
     }
 
--- a visit, by what it looks at of a table
+-- a visit, in terms of what it looks at in a table
 pub record Looked (f : Datum → Option Datum) (h : Home) (states : ℕ → PartState) (plan : Option (List Datum)) (wanted : ℕ → ℕ) (a b : Way) : Type 0 where
   pub found : List Datum
   pub looks : Looks f (table_of h states) plan (wanted (length a.gained)) a.at b.at found
@@ -109,9 +109,9 @@ visit_seen f h purpose p states plan wanted a b same alone some are there more v
       };
     }
 
--- ---- visits one behind the other
+-- ---- visits one after the other
 
--- How a walk has gone, by the visits of one thread: it made those of the first list, and the others are left.
+-- How a walk has gone, in terms of the visits of one thread: it made those of `front`, and the others are left.
 pub record Gone (f : Datum → Option Datum) (h : Home) (states : ℕ → PartState) (plan : Option (List Datum)) (wanted : ℕ → ℕ) (a b : Way) : Type 0 where
   pub front : List Sight
   pub splits : sights_from (table_of h states) plan a.at ≡ front ++ sights_from (table_of h states) plan b.at
@@ -152,7 +152,7 @@ pub gone_whole : (f : Datum → Option Datum) (h : Home) (states : ℕ → PartS
     → gained ≡ answers_in f (whole (table_of h states) plan)
 gone_whole f h states plan wanted v u gained g = g.gains ∙ ap (answers_in f) (sym (g.splits ∙ append-nil g.front))
 
--- where each visit is so, and carries on what is known of the views
+-- if each visit is such a visit, and preserves what is known of the views, so do all visits together
 pub goes_along : (f : Datum → Option Datum) (h : Home) (w : Walk) (states : ℕ → PartState) (plan : Option (List Datum)) (wanted : ℕ → ℕ) (Known : Way → Type 0) (a b : Way)
     → ((x y : Way) → Known x → IsThere h.options.parts (named_count plan) x.at → x.at ≢ Over → Visits h w wanted x y → Looked f h states plan wanted x y × Known y)
     → Known a → IsThere h.options.parts (named_count plan) a.at → Goes h w wanted a b → Gone f h states plan wanted a b × Known b

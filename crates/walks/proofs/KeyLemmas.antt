@@ -1,4 +1,4 @@
--- Turns at parts one behind the other, for keys.
+-- Turns at parts one after the other, for keys.
 use Rattle.std.proofs.Common.{◌≡◌, ◌≢◌, ℕ, ◌+◌, ◌<◌, ◌≤◌, ◌==◌, ◌⊎◌, inl, inr, refl, ap, sym, subst, ◌∙◌, arith, Bool, true, false, option_map, Some, None, IsTrue}
 use Rattle.std.proofs.lemmas.Bool.{eqb-true, eqb-false, false≢true}
 use Rattle.term_core.specs.Datum.{Datum}
@@ -28,7 +28,7 @@ pub first_done : (o : Settings) (s : PartState) (n : ℕ) → is_refused (reply_
 unfolding reply_of
 first_done o s n = refl
 
--- an answer that a key behind another can have
+-- an answer that the operation `Next` can have
 abbrev pub is_next : Answer → Bool
 is_next (Replied (AtKey k)) = true
 is_next (Refused BadKey) = true
@@ -48,7 +48,7 @@ next_is_key (Objects os) is = absurd (false≢true is)
 next_is_key (Found os c) is = absurd (false≢true is)
 next_is_key (Counted n c) is = absurd (false≢true is)
 
--- another refusal is none that there is
+-- `Next` has no other refusal
 never : (h : Home) (part : ℕ) (k : Datum) (refusal : Refusal) {v w : Views} → Turned h part (Next k) (Some (Refused refusal)) v w
     → is_next (Refused refusal) ≡ false → ⊥
 never h part k refusal t other =
@@ -69,7 +69,7 @@ next_refused h part k before now fault.CursorOutside follows = λ v b. absurd (n
 pub passed_none : (h : Home) (from : ℕ) (v w : Views) → ((k : ℕ) → w k ≡ v k) → Passed h from from v w
 passed_none h from v w same = record { none = λ k up less. absurd (omega (arith, up, less)); rest = λ k out. same k }
 
--- one part more
+-- one more part is passed
 pub passed_more : (h : Home) (from part : ℕ) (v w x : Views) → from ≤ part → Passed h from part v w
     → Turned h part First (Some (Replied (AtKey None))) w x → Passed h from (part + 1) v x
 passed_more h from part v w x up before t = record { none = none; rest = rest }

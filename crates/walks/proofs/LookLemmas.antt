@@ -1,4 +1,4 @@
--- What a visit looks at, as the visits of one thread.
+-- What a visit looks at, in terms of the visits of one thread.
 use Rattle.std.proofs.Common.{◌≡◌, ◌<◌, ◌+◌, ◌-◌, ℕ, Option, Some, None, List, [], ◌∷◌, ◌++◌, refl, sym, subst, ◌∙◌, ap, arith, flat_map, map, length, fold, option_map}
 use Rattle.std.specs.Prelude.{Bool, if◌then◌else◌, ◌||◌, ◌==◌, true, false, nat_le, filter, filter_map, sum_by}
 use Rattle.std.specs.List.{AllByRecursion, last_or, range_with_len}
@@ -14,7 +14,7 @@ use Rattle.part_core.specs.Acts.{Cursor}
 use Rattle.part_core.specs.Acts.Cursor.{Behind}
 use Rattle.part_core.specs.Rows.{Row}
 use Rattle.part_core.specs.Covers.{is_up_to}
-use Rattle.part_core.specs.Visits.{is_behind, most_rows, next_key, rows_behind, rows_up_to}
+use Rattle.part_core.specs.Visits.{is_beyond, most_rows, next_key, following_rows, rows_up_to}
 use Rattle.part_core.proofs.KeyLemmas.{by_test, not_behind_itself, below_not_behind}
 use Rattle.part_core.proofs.VisitLemmas.{filter_all, up_to_next}
 use Rattle.tables.specs.Options.{settings_of}
@@ -25,15 +25,15 @@ use Rattle.walks.specs.Sights.{Sight, answers_in, behind_part, goes_on, made, pa
 use Rattle.walks.proofs.MadeLemmas.{row_visit}
 use Rattle.walks.proofs.SightLemmas.{rows_end}
 
--- what is answered on the objects of rows
+-- the answers for the objects of rows
 abbrev pub found_on : (Datum → Option Datum) → List Row → List Datum
 found_on f rows = flat_map (λ r. filter_map f r.1) rows
 
 abbrev pub gives : (Datum → Option Datum) → Row → ℕ
 gives f r = length (filter_map f r.1)
 
--- A visit looks at some of the visits that are left, and the others are those from where the walk is then. It looks at
--- no visit that isn't made where so many answers are wanted.
+-- A visit makes the first of the visits that are left, and the others are those from the walk's position after it. It
+-- makes no visit that is not made with a target of `wanted` answers.
 pub record Looks (f : Datum → Option Datum) (t : TableState) (plan : Option (List Datum)) (wanted : ℕ) (at next : Position) (found : List Datum) : Type 0 where
   pub front : List Sight
   pub splits : sights_from t plan at ≡ front ++ sights_from t plan next
@@ -46,7 +46,7 @@ pub record Looks (f : Datum → Option Datum) (t : TableState) (plan : Option (L
 none_zero : (n : ℕ) → 0 < n → (n == 0) ≡ false
 none_zero n h = ne_eqb n 0 (λ e. omega (arith, h, e))
 
--- one visit of the visits that are left
+-- one visit, of those that are left
 pub one_looks : (f : Datum → Option Datum) (t : TableState) (plan : Option (List Datum)) (wanted : ℕ) (at : Position) (v : Sight) → 0 < wanted
     → sights_from t plan at ≡ v ∷ sights_from t plan v.behind
     → Looks f t plan wanted at v.behind (found_on f v.rows)
@@ -74,7 +74,7 @@ last_is : (r : Row) (vs : List Row) → last_or (Some r) vs ≡ Some (last_of r 
 last_is r [] = refl
 last_is r (v ∷ vs) = last_is v vs
 
-pub all_behind : (j : Datum) (rest : List Row) → AllByRecursion (λ k. datum_cmp j k ≡ Less) (keys_of rest) → filter (λ r. is_behind j r.0) rest ≡ rest
+pub all_behind : (j : Datum) (rest : List Row) → AllByRecursion (λ k. datum_cmp j k ≡ Less) (keys_of rest) → filter (λ r. is_beyond j r.0) rest ≡ rest
 all_behind j [] h = refl
 all_behind j (r ∷ rest) h = rw (h.0) (ap (λ rs. r ∷ rs) (all_behind j rest h.1))
 
@@ -82,14 +82,14 @@ below_last : (j : Datum) (r : Row) (vs rest : List Row) → AllByRecursion (λ k
 below_last j r [] rest h = h.0
 below_last j r (v ∷ vs) rest h = below_last j v vs rest h.1
 
--- of rows in order, those behind the last of the first ones are the others
-rest_behind : (r : Row) (vs rest : List Row) → IsStrictlySortedBy datum_cmp (keys_of (r ∷ vs ++ rest)) → filter (λ v. is_behind (last_of r vs).0 v.0) (r ∷ vs ++ rest) ≡ rest
+-- of rows in order, those after the last of the first rows are the rest
+rest_behind : (r : Row) (vs rest : List Row) → IsStrictlySortedBy datum_cmp (keys_of (r ∷ vs ++ rest)) → filter (λ v. is_beyond (last_of r vs).0 v.0) (r ∷ vs ++ rest) ≡ rest
 unfolding IsStrictlySortedBy
 rest_behind r [] rest s = rw (not_behind_itself r.0) (all_behind r.0 rest s.0)
 rest_behind r (v ∷ vs) rest s =
     rw (below_not_behind r.0 (last_of v vs).0 (below_last r.0 v vs rest s.0)) (rest_behind v vs rest s.1)
 
--- a visit looks at the first rows
+-- the rows that a visit looks at come first, and the rest follows
 left_over : (answers : Row → ℕ) (wanted room : ℕ) (xs : List Row) → (rest : List Row) × (xs ≡ rows_up_to answers wanted room xs ++ rest)
 unfolding rows_up_to
 left_over answers wanted room [] = ([], refl)
@@ -122,15 +122,15 @@ visit_picks f t part wanted rows vs left ws some is splits =
     (row_visit f t part wanted most_rows rows left ws some (splits ∙ ap (λ (xs : List Row). xs ++ left) is))
     ∙ ap (λ (xs : List Datum). map (row_sight part) vs ++ made f (wanted - length xs) (row_sights t part left ++ ws)) all
 
--- the visits of the parts behind one
+-- the visits of the parts after one
 abbrev pub later_parts : TableState → ℕ → List Sight
 later_parts t part = flat_map (λ k. part_sights t k None) (range_with_len (part + 1) (t.options.parts - (part + 1)))
 
--- a visit that goes on behind its last row
+-- a visit that stops after its last row
 stopped_looks : (f : Datum → Option Datum) (t : TableState) (plan : Option (List Datum)) (part wanted : ℕ) (at : Position) (rows : List Row) (r : Row) (rs left : List Row) → 0 < wanted
     → sights_from t plan at ≡ row_sights t part rows ++ later_parts t part
     → r ∷ rs ≡ rows_up_to (gives f) wanted most_rows rows → rows ≡ (r ∷ rs) ++ left
-    → rows_behind (last_of r rs).0 (t.states part).rows ≡ left
+    → following_rows (last_of r rs).0 (t.states part).rows ≡ left
     → Looks f t plan wanted at (InPart part (Some (Behind (last_of r rs).0))) (found_on f (r ∷ rs))
 stopped_looks f t plan part wanted at rows r rs left some from is splits behind = record {
   front = map (row_sight part) (r ∷ rs);
@@ -157,7 +157,7 @@ end_on : (t : TableState) (part : ℕ) (vs ws : List Sight) → vs ++ (end_sight
 end_on t part [] ws = refl
 end_on t part (v ∷ vs) ws = ap (λ (xs : List Sight). v ∷ xs) (end_on t part vs ws)
 
--- one that finds no row left
+-- a visit that finds no row left
 ended_looks : (f : Datum → Option Datum) (t : TableState) (plan : Option (List Datum)) (part wanted : ℕ) (at : Position) (rows : List Row) → 0 < wanted
     → sights_from t plan at ≡ row_sights t part rows ++ later_parts t part
     → rows ≡ rows_up_to (gives f) wanted most_rows rows → sum_by (gives f) rows < wanted
@@ -197,7 +197,7 @@ second_of true h x y = cc
 pub rows_looks : (f : Datum → Option Datum) (t : TableState) (plan : Option (List Datum)) (part wanted : ℕ) (at : Position) (rows : List Row) → 0 < wanted
     → sights_from t plan at ≡ row_sights t part rows ++ later_parts t part
     → IsStrictlySortedBy datum_cmp (keys_of rows)
-    → ((k : Datum) → next_key (gives f) wanted (rows_up_to (gives f) wanted most_rows rows) ≡ Some (Behind k) → rows_behind k (t.states part).rows ≡ rows_behind k rows)
+    → ((k : Datum) → next_key (gives f) wanted (rows_up_to (gives f) wanted most_rows rows) ≡ Some (Behind k) → following_rows k (t.states part).rows ≡ following_rows k rows)
     → Looks f t plan wanted at (goes_on t part (next_key (gives f) wanted (rows_up_to (gives f) wanted most_rows rows))) (found_on f (rows_up_to (gives f) wanted most_rows rows))
 rows_looks f t plan part wanted at rows some from sorted leads =
     by_test (nat_le wanted (sum_by (gives f) vs) || length vs == most_rows) _
@@ -224,7 +224,7 @@ rows_looks f t plan part wanted at rows some from sorted leads =
     stopped (r ∷ rs) is stops =
         let next : next_key (gives f) wanted (r ∷ rs) ≡ Some (Behind (last_of r rs).0) = first_of _ stops _ _ ∙ ap (option_map (λ (v : Row). Behind v.0)) (last_is r rs) in
         let splits : rows ≡ (r ∷ rs) ++ over.0 = over.1 ∙ ap (λ (xs : List Row). xs ++ over.0) (sym is) in
-        let behind : rows_behind (last_of r rs).0 (t.states part).rows ≡ over.0 = leads (last_of r rs).0 (ap (next_key (gives f) wanted) (sym is) ∙ next) ∙ ap (rows_behind (last_of r rs).0) splits
+        let behind : following_rows (last_of r rs).0 (t.states part).rows ≡ over.0 = leads (last_of r rs).0 (ap (next_key (gives f) wanted) (sym is) ∙ next) ∙ ap (following_rows (last_of r rs).0) splits
         ∙ rest_behind r rs over.0 (subst (λ (xs : List Row). IsStrictlySortedBy datum_cmp (keys_of xs)) splits sorted) in
         subst (λ (c : Option Cursor). Looks f t plan wanted at (goes_on t part c) (found_on f (r ∷ rs))) (sym next)
         (stopped_looks f t plan part wanted at rows r rs over.0 some from is splits behind)

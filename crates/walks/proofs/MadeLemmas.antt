@@ -22,7 +22,7 @@ answers_more f v vs =
     flat_map-append (λ r. filter_map f r.1) v.rows (rows_seen vs)
     ∙ ap (λ rows. flat_map (λ r. filter_map f r.1) rows ++ answers_in f vs) (sym (append-nil v.rows))
 
--- visits that are made of some and then of others: of these as many as are wanted still
+-- of two lists of visits, the second is made with the target that is left after the first
 pub made_on : (f : Datum → Option Datum) (wanted : ℕ) (vs ws : List Sight) → made f wanted (vs ++ ws) ≡ made f wanted vs ++ made f (wanted - length (answers_in f vs)) ws
 made_on f wanted [] ws =
     let same : wanted ≡ wanted - 0 = omega arith in
@@ -43,7 +43,7 @@ row_sight part r = record { rows = r ∷ []; behind = InPart part (Some (Behind 
 answers_at : (f : Datum → Option Datum) (part : ℕ) (r : Row) → answers_in f (row_sight part r ∷ []) ≡ filter_map f r.1
 answers_at f part r = append-nil (filter_map f r.1)
 
--- of the rows that one visit looks at each is made a visit of
+-- each of the rows that one visit looks at has its visit made
 rows_made : (f : Datum → Option Datum) (part wanted room : ℕ) (rs : List Row) → 0 < wanted → made f wanted (map (row_sight part) (rows_up_to (λ r. length (filter_map f r.1)) wanted room rs)) ≡ map (row_sight part) (rows_up_to (λ r. length (filter_map f r.1)) wanted room rs)
 unfolding rows_up_to
 rows_made f part wanted room [] some = refl
@@ -67,7 +67,7 @@ rows_made f part wanted room (r ∷ rs) some =
     few : (n m : ℕ) → nat_le n m ≡ false → 0 < n - m
     few n m h = let less : m < n = leb-false n m h in omega (arith, less)
 
--- one visit of an ordered set's part: the rows that it looks at, and then the visits from there on
+-- one visit of an ordered set's part: the rows that it looks at, and then the visits that follow
 pub row_visit : (f : Datum → Option Datum) (t : TableState) (part wanted room : ℕ) (rs left : List Row) (ws : List Sight) → 0 < wanted → rs ≡ rows_up_to (λ r. length (filter_map f r.1)) wanted room rs ++ left → made f wanted (row_sights t part rs ++ ws) ≡ map (row_sight part) (rows_up_to (λ r. length (filter_map f r.1)) wanted room rs) ++ made f (wanted - length (answers_in f (map (row_sight part) (rows_up_to (λ r. length (filter_map f r.1)) wanted room rs)))) (row_sights t part left ++ ws)
 row_visit f t part wanted room rs left ws some split =
     let front = rows_up_to (λ r. length (filter_map f r.1)) wanted room rs in

@@ -17,9 +17,9 @@ use Rattle.walk_core.specs.Walk.{Position, at_key}
 use Rattle.walk_core.specs.Walk.Position.{AtNamed, Over}
 use Rattle.walks.proofs.DoneLemmas.{done_in}
 
--- ---- the keys that are done behind a visit of a named key
+-- ---- the keys that are done after a visit of a named key
 
--- those before it, and the key itself
+-- the keys before the named key, and the key itself, are done
 named_next : (o : Settings) (ks : List Datum) (n k : ℕ) → n < length ks
     → done_in o (Some ks) (at_key (n + 1) (length ks)) k ≡ (λ j. (part_of o j == k) && (list_any (is_same j) (take n ks) || is_same (get_or ks n nil) j))
 named_next o ks n k within = first ∙ fun_ext more
@@ -37,7 +37,7 @@ named_next o ks n k within = first ∙ fun_ext more
         ap (λ (b : Bool). (part_of o j == k) && b)
         (list_any_more (is_same j) ks n nil within ∙ ap (λ (b : Bool). list_any (is_same j) (take n ks) || b) (same_keys.symm j (get_or ks n nil)))
 
--- in the part of the visit
+-- the keys that are done in the part of the visit
 pub named_more : (o : Settings) (ks : List Datum) (n : ℕ) → n < length ks
     → done_in o (Some ks) (at_key (n + 1) (length ks)) (part_of o (get_or ks n nil)) ≡ (λ j. done_in o (Some ks) (AtNamed n) (part_of o (get_or ks n nil)) j || is_same (get_or ks n nil) j)
 named_more o ks n within =

@@ -21,12 +21,12 @@ use Rattle.walk_core.specs.Walk.Position.{AtNamed, Over}
 use Rattle.walks.specs.Sights.{Sight, key_sights, sights_from}
 use Rattle.walks.proofs.LookLemmas.{Looks, one_looks}
 
--- the visit of a named key, and where the walk is behind it
+-- the visit of a named key, and the walk's position after it
 abbrev pub key_sight : TableState → Datum → Position → Sight
 key_sight t k behind =
     record { rows = filter (λ r. is_same k r.0) (t.states (part_of (settings_of t.options) k)).rows; behind = behind }
 
--- of the keys that are left the first is visited, and the other visits are those from where the walk is then
+-- the first of the remaining keys is visited, and the other visits are those from the walk's position after it
 pub key_step : (t : TableState) (ks : List Datum) (n : ℕ) → n < length ks
     → sights_from t (Some ks) (AtNamed n) ≡ key_sight t (get_or ks n nil) (at_key (n + 1) (length ks)) ∷ sights_from t (Some ks) (at_key (n + 1) (length ks))
 key_step t ks n within =
@@ -41,7 +41,7 @@ key_step t ks n within =
     ap (λ (js : List Datum). key_sight t (get_or ks n nil) (if is_empty js then Over else AtNamed (n + 1)) ∷ key_sights t (n + 1) js) none
     ∙ sym (ap (λ (at : Position). key_sight t (get_or ks n nil) at ∷ sights_from t (Some ks) at) over))
 
--- a visit that wants some answers, of a named key
+-- a visit of a named key that has a target above 0
 pub key_looks : (f : Datum → Option Datum) (purpose : Purpose) (p : Program) (t : TableState) (ks : List Datum) (n wanted : ℕ) → yields purpose p ≡ filter_map f → 0 < wanted → n < length ks
     → Looks f t (Some ks) wanted (AtNamed n) (at_key (n + 1) (length ks)) (yield_of (settings_of t.options) (t.states (part_of (settings_of t.options) (get_or ks n nil))) purpose p (Named (get_or ks n nil)) wanted)
 key_looks f purpose p t ks n wanted same some within =

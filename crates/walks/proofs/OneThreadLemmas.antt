@@ -1,4 +1,4 @@
--- What turns for keys come to where a session is alone with its table.
+-- What turns for keys return if a session is alone with its table.
 use Rattle.std.proofs.Common.{◌≡◌, ℕ, zero, suc, ◌+◌, ◌-◌, ◌<◌, ◌≤◌, ◌==◌, ◌⊎◌, inl, inr, [], ◌++◌, refl, ap, sym, subst, ◌∙◌, arith, Option, Some, None, flat_map}
 use Rattle.std.specs.Prelude.{IsTrue, nat_lt}
 use Rattle.std.specs.List.{range_with_len}
@@ -31,7 +31,7 @@ use Rattle.walks.specs.OneThread.{rows_from_part, key_or_later, key_after}
 
 -- ---- a turn for a key
 
--- what was seen before a turn is legal
+-- the history before a turn is legal
 legal_before : (h : Home) (old new : History) (act : Act) (answer : Option Answer) → IsTrue h.alone → TurnedAt h old act answer new → IsLegal (settings_of h.options) old
 legal_before h old new act answer alone t =
     subst (IsLegal (settings_of h.options)) (ap (λ (es : History). old ++ es) (t.others.alone alone) ∙ append-nil old) (turned_front h old new act answer t)
@@ -57,7 +57,7 @@ next_turn h old new k answer alone t =
 
 -- ---- the parts from one on
 
--- the states of a table are those that are seen
+-- the states of a table are those that the session sees
 abbrev pub AreStates : Home → TableState → Views → Type 0
 AreStates h t v = (k : ℕ) → k < h.options.parts → t.states k ≡ state_after (settings_of h.options) (v k)
 
@@ -72,7 +72,7 @@ rows_end t part past =
     let none : t.options.parts - part ≡ 0 = omega (arith, past) in
     ap (λ n. flat_map (λ k. walk_order (settings_of t.options) (t.states k).base (t.states k).rows) (range_with_len part n)) none
 
--- the first key of a part's rows, as the state has them
+-- the first key of a part is that of the rows of its state
 part_first : (h : Home) (t : TableState) (v : Views) (part : ℕ) (key : Option Datum) (new : History) → IsTrue h.alone → t.options ≡ h.options → AreStates h t v → part < h.options.parts
     → TurnedAt h (v part) First (Some (Replied (AtKey key))) new
     → key ≡ first_live (walk_order (settings_of t.options) (t.states part).base (t.states part).rows)
@@ -102,7 +102,7 @@ passed_states h t v w from to alone states passed k inside =
     stays : (k < from) ⊎ (to ≤ k) → t.states k ≡ state_after (settings_of h.options) (w k)
     stays out = states k inside ∙ ap (state_after (settings_of h.options)) (sym (passed.rest k out))
 
--- a turn for the first key leaves the states
+-- a turn for the first key leaves the states unchanged
 turned_states : (h : Home) (t : TableState) (v w : Views) (part : ℕ) (key : Option Datum) → IsTrue h.alone → AreStates h t v → Turned h part First (Some (Replied (AtKey key))) v w → AreStates h t w
 turned_states h t v w part key alone states turned k inside =
     by_test (k == part) (t.states k ≡ state_after (settings_of h.options) (w k))
@@ -110,7 +110,7 @@ turned_states h t v w part key alone states turned k inside =
     states k inside ∙ subst (λ (j : ℕ). state_after (settings_of h.options) (v j) ≡ state_after (settings_of h.options) (w j)) (sym is) (sym (first_turn h (v part) (w part) key alone turned.here).1))
     (λ other. states k inside ∙ ap (state_after (settings_of h.options)) (sym (turned.rest k (eqb-false k part other))))
 
--- a turn for the key behind another leaves them
+-- a turn for the key after another leaves the states unchanged
 pub next_states : (h : Home) (t : TableState) (v w : Views) (part : ℕ) (j : Datum) (answer : Answer) → IsTrue h.alone → AreStates h t v → Turned h part (Next j) (Some answer) v w → AreStates h t w
 next_states h t v w part j answer alone states turned k inside =
     by_test (k == part) (t.states k ≡ state_after (settings_of h.options) (w k))
@@ -118,7 +118,7 @@ next_states h t v w part j answer alone states turned k inside =
     states k inside ∙ subst (λ (i : ℕ). state_after (settings_of h.options) (v i) ≡ state_after (settings_of h.options) (w i)) (sym is) (sym (next_turn h (v part) (w part) j answer alone turned.here).1))
     (λ other. states k inside ∙ ap (state_after (settings_of h.options)) (sym (turned.rest k (eqb-false k part other))))
 
--- what is found from a part on is the first key of the walk from there on, and the states stay
+-- the key that is found from a part on is the first of the walk from there on, and the states are unchanged
 pub found_first : (h : Home) (t : TableState) (v w : Views) (from : ℕ) (key : Option Datum) → from ≤ h.options.parts → IsTrue h.alone → t.options ≡ h.options → AreStates h t v
     → FoundFirst h from key v w → (key ≡ first_live (rows_from_part t from)) × AreStates h t w
 found_first h t v w from None inside alone same states passed = (
@@ -134,7 +134,7 @@ found_first h t v w from (Some key) inside alone same states s =
       turned_states h t s.between w s.part (Some key) alone between s.last,
     )
 
--- the answer at a key's part, as its state has it
+-- the answer at a key's part is that of its state
 part_next : (h : Home) (t : TableState) (v w : Views) (k : Datum) (answer : Answer) → 0 < h.options.parts → IsTrue h.alone → t.options ≡ h.options → AreStates h t v
     → Turned h (part_of (settings_of h.options) k) (Next k) (Some answer) v w
     → key_after t h.number k ≡ key_or_later t (part_of (settings_of h.options) k) answer
@@ -154,14 +154,14 @@ behind_none : (h : Home) (t : TableState) (v w : Views) (k : Datum) → 0 < h.op
     → key_after t h.number k ≡ Replied (AtKey (first_live (rows_from_part t (part_of (settings_of h.options) k + 1))))
 behind_none h t v w k some alone same states turned = part_next h t v w k (Replied (AtKey None)) some alone same states turned
 
--- and so is a refusal, of a key without a row
+-- a refusal of a key without a row is that of the key's state
 pub refused_next : (h : Home) (t : TableState) (v w : Views) (k : Datum) → 0 < h.options.parts → IsTrue h.alone → t.options ≡ h.options → AreStates h t v
     → Turned h (part_of (settings_of h.options) k) (Next k) (Some (Refused BadKey)) v w
     → (Refused BadKey ≡ key_after t h.number k) × AreStates h t w
 refused_next h t v w k some alone same states turned =
     (sym (part_next h t v w k (Refused BadKey) some alone same states turned), next_states h t v w (part_of (settings_of h.options) k) k (Refused BadKey) alone states turned)
 
--- what is found behind a key is what the walk has behind its row, and the states stay
+-- the key that is found after another is the first in the walk after its row, and the states are unchanged
 pub found_next : (h : Home) (t : TableState) (v w : Views) (k : Datum) (next : Option Datum) → 0 < h.options.parts → IsTrue h.alone → t.options ≡ h.options → AreStates h t v
     → FoundNext h k next v w → (Replied (AtKey next) ≡ key_after t h.number k) × AreStates h t w
 found_next h t v w k next some alone same states (inl (j, is, turned)) =

@@ -1,4 +1,4 @@
--- A walk without named keys looks at each row once, in the order of the walk.
+-- A walk without named keys looks at each row once, in walk order.
 use Rattle.std.proofs.Common.{◌≡◌, ◌<◌, ◌+◌, ◌-◌, ℕ, zero, suc, List, [], ◌∷◌, ◌++◌, refl, sym, ◌∙◌, ap, arith, flat_map, map, None}
 use Rattle.std.specs.Prelude.{if◌then◌else◌, true, false, Bool}
 use Rattle.std.specs.List.{range_with_len}
@@ -12,7 +12,7 @@ use Rattle.tables.specs.OneThread.{TableState}
 use Rattle.walks.specs.OneThread.{table_rows}
 use Rattle.walks.specs.Sights.{Sight, goes_on, part_sights, class_sights, row_sights, rows_seen, whole}
 
--- what visits look at that are made of one thing each
+-- visits that each look at the rows of one thing look at the rows of all things
 seen_each : {X : Type 0} (sight : X → Sight) (rows : X → List Row) → ((x : X) → (sight x).rows ≡ rows x) → (xs : List X) → rows_seen (map sight xs) ≡ flat_map rows xs
 seen_each sight rows same [] = refl
 seen_each sight rows same (x ∷ xs) =

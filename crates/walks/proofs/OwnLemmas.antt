@@ -1,4 +1,4 @@
--- Fixes of a call's own.
+-- Fixes that a call makes itself.
 use Rattle.std.proofs.Common.{zero, suc, ◌≡◌, ◌≢◌, ℕ, ◌+◌, ◌<◌, ◌≤◌, ◌==◌, refl, ap, sym, subst, ◌∙◌, arith, length, get_or, List, set, get_or-set_same, get_or-set_other}
 use Rattle.std.specs.Prelude.{Bool, true, false, not, ◌&&◌, Some, replicate}
 use Rattle.std.proofs.Math.Logic.{∥∥₁_map}
@@ -16,16 +16,16 @@ use Rattle.walks.specs.Own.{is_fixed_first, ChangedWhere, FixesFirst, Releases, 
 
 -- ---- fixing
 
--- the parts below one are fixed where the call fixes them first, and the others are as they were
+-- the parts below a number are fixed if the call fixes them first, and the others are as they were
 pub record FixedBelow (h : Home) (own : List Bool) (part : ℕ) (v w : Views) : Type 0 where
   pub below : (k : ℕ) → k < part → (get_or own k false ≡ is_fixed_first h v k) × ChangedWhere h Fix (is_fixed_first h v k) (v k) (w k)
   pub above : (k : ℕ) → part ≤ k → w k ≡ v k
 
--- none is fixed from one on
+-- no part from a number on is fixed by the call
 abbrev pub AreFreeFrom : List Bool → ℕ → Type 0
 AreFreeFrom own part = (k : ℕ) → part ≤ k → get_or own k false ≡ false
 
--- none of a list of no part
+-- the list of no part has none
 in_none : (n k : ℕ) → get_or (replicate n false) k false ≡ false
 in_none zero zero = refl
 in_none zero (suc k) = refl
@@ -42,7 +42,7 @@ pub none_fixed : (h : Home) (own : List Bool) (now : Views → Type 0) → Follo
 none_fixed h own now v b =
     (v, b, record { below = λ k below. absurd (omega (arith, below)); above = λ k above. refl })
 
--- a part that the session fixes is left
+-- a part that the session fixes is left as it is
 pub fixed_before : (h : Home) (own : List Bool) (part count : ℕ) (before now : Views → Type 0) → AreFreeFrom own part → count ≢ 0 → ((w : Views) → now w → count ≡ fix_count h.number (w part)) → Follows before now (FixedBelow h own part) → Follows before now (FixedBelow h own (part + 1))
 fixed_before h own part count before now free some counted fixed v b =
     let f = fixed v b in
@@ -63,7 +63,7 @@ fixed_before h own part count before now free some counted fixed v b =
     none true = refl
     none false = refl
 
--- another one is fixed
+-- a part that the session doesn't fix is fixed
 pub fixed_now : (h : Home) (own : List Bool) (part count : ℕ) (before now later : Views → Type 0) → is_ordered h.options.kind ≡ false → part < length own → count ≡ 0 → ((w : Views) → now w → count ≡ fix_count h.number (w part)) → Follows before now (FixedBelow h own part) → Follows now later (Turned h part Fix (Some (Replied Nothing))) → Follows before later (FixedBelow h (set own part true) (part + 1))
 fixed_now h own part count before now later plain within zero_is counted fixed turned v b =
     let f = fixed v b in
@@ -94,7 +94,7 @@ fixes_all h own before now fixed v b = let f = fixed v b in (f.0, f.1, λ part i
 
 -- ---- releasing
 
--- of these parts those below one were released, and the others are as they were
+-- the parts of the call below a number were released, and the others are as they were
 pub record ReleasedBelow (h : Home) (own : List Bool) (part : ℕ) (v w : Views) : Type 0 where
   pub below : (k : ℕ) → k < part → ChangedWhere h Unfix (get_or own k false) (v k) (w k)
   pub above : (k : ℕ) → part ≤ k → w k ≡ v k

@@ -1,4 +1,4 @@
--- Pieces, by the answers that visits found.
+-- Pieces, in terms of the answers that visits found.
 use Rattle.std.proofs.Common.{zero, suc, arith, ◌≡◌, ◌≢◌, ℕ, ◌<◌, ◌≤◌, ◌⊎◌, inl, inr, refl, ap, sym, subst, ◌∙◌, List, [], ◌∷◌, ◌++◌, length, take, drop}
 use Rattle.std.proofs.lemmas.List.{append_assoc, append-nil, take-append-drop, length-take}
 use Rattle.std.proofs.Props.{props}
@@ -25,7 +25,7 @@ use Rattle.walk_core.specs.Positions.{position_of}
 use Rattle.walks.specs.Query.{IsWithin, kept_of, walk_of}
 use Rattle.walks.proofs.GoingLemmas.{GoesBy, is_walk}
 
--- what was found is what is given out and then what is kept
+-- what was found is what is returned, followed by what is kept
 pub goes_given : (h : Home) (w : Walk) (wanted : ℕ → ℕ) (first at : Position) (begun gained piece kept : List Datum) (limit : ℕ) (before now : Views → Type 0) → piece ≡ take limit gained → kept ≡ drop limit gained → Follows before now (GoesBy h w wanted first begun at gained) → Follows before now (GoesBy h w wanted first begun at (piece ++ kept))
 goes_given h w wanted first at begun gained piece kept limit before now front rest so_far =
     let whole : piece ++ kept ≡ gained = ap (λ (ys : List Datum). ys ++ kept) front ∙ ap (λ (ys : List Datum). take limit gained ++ ys) rest ∙ take-append-drop limit gained in
@@ -37,7 +37,7 @@ drop_all [] (suc n) few = refl
 drop_all (x ∷ xs) zero few = absurd (omega (arith, few))
 drop_all (x ∷ xs) (suc n) few = drop_all xs n (omega (arith, few))
 
--- enough answers, or the end
+-- a piece has enough answers, or the walk is at its end
 pub piece_of : (limit : ℕ) (gained piece kept : List Datum) (at : Position) → piece ≡ take limit gained → kept ≡ drop limit gained → (limit ≤ length gained) ⊎ (at ≡ Over) → IsPiece limit piece at kept
 piece_of limit gained piece kept at front rest enough =
     let long : length piece ≡ min limit (length gained) = ap length front ∙ length-take limit gained in
@@ -50,7 +50,7 @@ piece_of limit gained piece kept at front rest enough =
     of (inl many) few = absurd (omega (arith, many, few))
     of (inr over) few = (over, rest ∙ drop_all gained limit (omega (arith, few)))
 
--- a step, by the piece and what is kept
+-- a step, in terms of the piece and what is kept
 pub steps_of : {A : Type 0} (h : Home) (q : Query A) (limit : ℕ) (first : Position) (begun : List Datum) (c : Continuation A) (piece : List Datum) (s : Step A) (before now : Views → Type 0) → 0 < limit → IsWalkOf h q limit c → IsPiece limit piece (position_of c.at) (kept_of c.kept) → IsStepOf c piece s → Follows before now (GoesBy h (walk_of h Answers q) (up_to limit) first begun (position_of c.at) (piece ++ kept_of c.kept)) → Follows before now (Steps h q limit first begun s)
 steps_of h q limit first begun c piece (step.Piece answers d) before now some own is_piece is so_far v b =
     let f = so_far v b in
@@ -66,7 +66,7 @@ steps_of h q limit first begun c piece (step.End p) before now some own is_piece
 
 -- ---- the walk so far
 
--- a walk so far is carried on by what a call gives out
+-- a walk so far is continued by what a call returns
 carried : {A : Type 0} (h : Home) (q : Query A) (limit : ℕ) (first : Position) (begun : List Datum) (s : Step A) (v w : Views) (calls : List Span) (given : List Datum) → (0 < h.options.parts) × (h.number < h.options.sessions) → AreLegal h.options v → Steps h q limit first begun s v w → IsSoFar (walk_of h Answers q) calls given v first begun → ArePlaced h.options w → IsCarriedOn (walk_of h Answers q) (calls ++ span v w ∷ []) given s w
 carried h q limit first begun (step.Piece answers c) v w calls given fits legal steps so_far placed =
     let walk = walk_of h Answers q in
@@ -97,13 +97,13 @@ keeps_by h c d before now fits legal own stops v b =
     let walk = walk_of h Answers c.query in
     (f.0, f.1, (f.2, own, λ calls given so_far placed. stops_so_far h walk (up_to c.limit) calls given (way v (position_of c.at) (kept_of c.kept)) (position_of d.at) (kept_of d.kept) f.0 (record { options = refl; number = refl }) (is_walk h Answers c.query fits) (legal v b) placed so_far f.2))
 
--- ---- refusals
+-- ---- errors
 
--- where a walk begins it can go on
+-- a walk can go on from where it begins
 pub starts_well : {A : Type 0} (h : Home) (q : Query A) (v : Views) → (0 < h.options.parts) × (h.number < h.options.sessions) → IsPosition (walk_of h Answers q) v (start_of (walk_of h Answers q))
 starts_well h q v fits = (begins_so_far (walk_of h Answers q) v (is_walk h Answers q fits)).position
 
--- a walk that can go on is refused for want of memory alone
+-- a walk that can go on can only run out of memory
 pub only_scarce : {A : Type 0} (h : Home) (q : Query A) (at : Position) (f : WalkFault) (before : Views → Type 0) → ∥ ((v : Views) × before v) ∥₁ → ((v : Views) → before v → IsPosition (walk_of h Answers q) v at) → (f ≢ fault.Memory → (f ≡ fault.StrangerContinuation) × ((v : Views) → before v → IsPosition (walk_of h Answers q) v at → ⊥)) → f ≡ fault.Memory
 only_scarce h q at fault.Memory before seen well other = refl
 only_scarce h q at fault.StrangerContinuation before seen well other =
@@ -125,7 +125,7 @@ pub ok_both : {X Y : Type 0} (r : Result X Y) (P Q R : X → Type 0) → ((x : X
 ok_both (Ok x) P Q R f p q = f x p q
 ok_both (Err y) P Q R f p q = tt
 
--- what is in memory is less than the most that is counted
+-- the number of what is in memory is below the greatest number that is counted
 pub few_in_memory : (len cap n : ℕ) → len ≡ n → len ≤ cap → cap < 9223372036854775808 → n < 18446744073709551615
 few_in_memory len cap n is within small = omega (arith, is, within, small)
 

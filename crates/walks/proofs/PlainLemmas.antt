@@ -24,7 +24,7 @@ use Rattle.walks.proofs.LookLemmas.{Looks}
 use Rattle.walks.proofs.NamedLemmas.{key_looks}
 use Rattle.walks.proofs.VisitLooks.{visit_looks}
 
--- the walk of a session through all parts of its table, or through keys that are named
+-- the walk of a session through all parts of its table, or through the keys that are named
 abbrev pub plain : Home → Purpose → Program → Option (List Datum) → Walk
 plain h purpose program plan = record {
   options = h.options;
@@ -39,22 +39,22 @@ plain h purpose program plan = record {
 abbrev pub table_of : Home → (ℕ → PartState) → TableState
 table_of h states = record { options = h.options; states = states }
 
--- ---- where it is
+-- ---- its position
 
--- where it begins
+-- the position where it begins
 pub starts : (h : Home) (purpose : Purpose) (p : Program) (plan : Option (List Datum)) → 0 < h.options.parts → start_of (plain h purpose p plan) ≡ first_position plan
 starts h purpose p None some = rw (lt-ltb 0 h.options.parts some) refl
 starts h purpose p (Some []) some = refl
 starts h purpose p (Some (k ∷ ks)) some =
     let more : nat_lt 0 (length (k ∷ ks)) ≡ true = lt-ltb 0 (length (k ∷ ks)) (omega arith) in rw more refl
 
--- it can be there
+-- it can be at the position where it begins
 pub first_there : (parts : ℕ) (plan : Option (List Datum)) → 0 < parts → IsThere parts (named_count plan) (first_position plan)
 first_there parts None some = some
 first_there parts (Some []) some = tt
 first_there parts (Some (k ∷ ks)) some = omega arith
 
--- and where it is behind a visit
+-- it can be at the position after a visit
 pub there_next : (h : Home) (purpose : Purpose) (p : Program) (plan : Option (List Datum)) (at : Position) (next : Option Cursor) → IsThere h.options.parts (named_count plan) at
     → IsThere h.options.parts (named_count plan) (next_position (plain h purpose p plan) at next)
 there_next h purpose p plan (InPart part cursor) (Some c) there = there
@@ -79,7 +79,7 @@ same_next : (h : Home) (states : ℕ → PartState) (part : ℕ) (next : Option 
 same_next h states part None = refl
 same_next h states part (Some c) = refl
 
--- a visit that wants some answers, of a table whose states are these
+-- what a visit with a target above 0 looks at, in a table with these states
 pub walk_looks : (f : Datum → Option Datum) (h : Home) (purpose : Purpose) (p : Program) (states : ℕ → PartState) (wanted : ℕ) (at : Position) (plan : Option (List Datum)) → yields purpose p ≡ filter_map f → 0 < wanted
     → IsThere h.options.parts (named_count plan) at → at ≢ Over
     → IsState (settings_of h.options) (states (part_at (plain h purpose p plan) at))

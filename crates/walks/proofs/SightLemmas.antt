@@ -1,4 +1,4 @@
--- The visits from where a walk is behind a visit are those behind it.
+-- The visits from a walk's position after a visit are those after that visit.
 use Rattle.std.proofs.Common.{◌≡◌, ◌<◌, ◌≤◌, ◌+◌, ◌-◌, ℕ, suc, Option, Some, None, List, [], ◌∷◌, ◌++◌, refl, ◌∙◌, ap, arith, flat_map, map}
 use Rattle.std.specs.Prelude.{false, nat_lt}
 use Rattle.std.specs.List.{range_with_len}
@@ -25,11 +25,11 @@ range_none a b past =
     let none : b - a ≡ 0 = omega (arith, past) in
     ap (range_with_len a) none
 
--- the visits of the parts behind one
+-- the visits of the parts after one
 abbrev later_parts : TableState → ℕ → List Sight
 later_parts t part = flat_map (λ k. part_sights t k None) (range_with_len (part + 1) (t.options.parts - (part + 1)))
 
--- behind a part there are those of the parts behind it
+-- after a part, the visits of the parts after it follow
 part_step : (t : TableState) (plan : Option (List Datum)) (part : ℕ) → later_parts t part ≡ sights_from t plan (behind_part t part)
 part_step t plan part =
     by_test (nat_lt (part + 1) t.options.parts) _
@@ -47,7 +47,7 @@ behind_class t plan part base class =
     (λ holds. rw holds refl)
     (λ fails. rw fails (ap (λ cs. map (class_sight t part base) cs ++ later_parts t part) (range_none (class + 1) base (ltb-false (class + 1) base fails)) ∙ part_step t plan part))
 
--- behind a class there are the visits from the next one on
+-- after a class, the visits from the next one on follow
 pub class_step : (t : TableState) (plan : Option (List Datum)) (part base class : ℕ) → class < base → sights_from t plan (InPart part (Some (Class base class))) ≡ class_sight t part base class ∷ sights_from t plan (goes_on t part (next_class base class))
 class_step t plan part base class below =
     ap (λ cs. map (class_sight t part base) cs ++ later_parts t part) (range_step class base below)
@@ -57,7 +57,7 @@ class_step t plan part base class below =
 pub first_class_step : (t : TableState) (plan : Option (List Datum)) (part : ℕ) → is_ordered t.options.kind ≡ false → sights_from t plan (InPart part None) ≡ sights_from t plan (InPart part (Some (Class (t.states part).base 0)))
 first_class_step t plan part unordered = rw unordered refl
 
--- behind a row there are the visits of the rows behind it, and at last of the parts behind
+-- after a row, the visits of the rows after it follow, and at last those of the parts after
 pub rows_step : (t : TableState) (part : ℕ) (r : Row) (rs : List Row) → row_sights t part (r ∷ rs) ≡ record { rows = r ∷ []; behind = InPart part (Some (Behind r.0)) } ∷ row_sights t part rs
 rows_step t part r rs = refl
 

@@ -1,4 +1,4 @@
--- What a visit of a part looks at, by the state of the part.
+-- What a visit of a part looks at, in terms of the part's state.
 use Rattle.std.proofs.Common.{◌≡◌, ◌<◌, ◌⊎◌, inl, inr, ℕ, Option, Some, None, List, ◌++◌, refl, sym, subst, ◌∙◌, ap, arith, flat_map, length}
 use Rattle.std.proofs.Math.Path.{fun_ext}
 use Rattle.std.specs.Prelude.{Bool, IsTrue, ◌&&◌, if◌then◌else◌, true, false, filter, filter_map}
@@ -17,7 +17,7 @@ use Rattle.part_core.specs.Replies.{yield_of}
 use Rattle.part_core.specs.Rows.{Row}
 use Rattle.part_core.specs.Settings.{is_ordered}
 use Rattle.part_core.specs.States.{IsState}
-use Rattle.part_core.specs.Visits.{in_class, is_behind, is_inside, most_rows, next_class, next_key, next_of, rows_behind, rows_up_to, yields}
+use Rattle.part_core.specs.Visits.{in_class, is_beyond, is_inside, most_rows, next_class, next_key, next_of, following_rows, rows_up_to, yields}
 use Rattle.part_core.proofs.KeyLemmas.{by_test}
 use Rattle.part_core.proofs.StateLemmas.{base_least, filtered_rows}
 use Rattle.part_core.proofs.VisitLemmas.{filter-filter}
@@ -29,33 +29,33 @@ use Rattle.walks.specs.Sights.{goes_on, row_sights, sights_from}
 use Rattle.walks.proofs.LookLemmas.{Looks, gives, later_parts, one_looks, rows_looks}
 use Rattle.walks.proofs.SightLemmas.{class_sight, class_step, first_class_step}
 
--- ---- rows behind a key, and behind a further one
+-- ---- rows after a key, and after a further one
 
 is_less : (o : Ordering) → is_lt o ≡ true → o ≡ Less
 is_less Less h = refl
 is_less Equal h = cc
 is_less Greater h = cc
 
-further_behind : (j k l : Datum) → is_behind j k ≡ true → is_behind k l ≡ true → is_behind j l ≡ true
+further_behind : (j k l : Datum) → is_beyond j k ≡ true → is_beyond k l ≡ true → is_beyond j l ≡ true
 further_behind j k l first next =
     ap is_lt (datum_cmp_total.trans j k l (is_less (datum_cmp j k) first) (is_less (datum_cmp k l) next))
 
-both_behind : (j k l : Datum) → is_behind j k ≡ true → (is_behind j l && is_behind k l) ≡ is_behind k l
+both_behind : (j k l : Datum) → is_beyond j k ≡ true → (is_beyond j l && is_beyond k l) ≡ is_beyond k l
 both_behind j k l first =
-    by_test (is_behind k l) _ (λ next. rw (next, further_behind j k l first next) refl) (λ fails. rw fails (none (is_behind j l)))
+    by_test (is_beyond k l) _ (λ next. rw (next, further_behind j k l first next) refl) (λ fails. rw fails (none (is_beyond j l)))
   where
     none : (b : Bool) → (b && false) ≡ false
     none true = refl
     none false = refl
 
-further_rows : (j k : Datum) (rows : List Row) → is_behind j k ≡ true → rows_behind k rows ≡ rows_behind k (rows_behind j rows)
+further_rows : (j k : Datum) (rows : List Row) → is_beyond j k ≡ true → following_rows k rows ≡ following_rows k (following_rows j rows)
 further_rows j k rows first =
-    sym (filter-filter (λ (r : Row). is_behind k r.0) (λ (r : Row). is_behind j r.0) rows
+    sym (filter-filter (λ (r : Row). is_beyond k r.0) (λ (r : Row). is_beyond j r.0) rows
     ∙ ap (λ (p : Row → Bool). filter p rows) (fun_ext (λ (r : Row). both_behind j k r.0 first)))
 
 -- ---- a visit
 
--- a visit that wants some answers, of a part where a walk is
+-- what a visit with a target above 0 looks at, in a part where a walk is
 pub visit_looks : (f : Datum → Option Datum) (purpose : Purpose) (p : Program) (t : TableState) (plan : Option (List Datum)) (part wanted : ℕ) (cursor : Option Cursor) → yields purpose p ≡ filter_map f → 0 < wanted
     → IsState (settings_of t.options) (t.states part)
     → IsTrue (is_inside (settings_of t.options) (t.states part) (scope_from cursor))
@@ -65,21 +65,21 @@ visit_looks f purpose p t plan part wanted (Some (Class base class)) same some s
     subst (λ (g : List Datum → List Datum). Looks f t plan wanted (InPart part (Some (Class base class))) (goes_on t part (next_class base class)) (flat_map (λ (r : Row). g r.1) (in_class (settings_of t.options) base class (t.states part).rows))) (sym same)
     (one_looks f t plan wanted (InPart part (Some (Class base class))) (class_sight t part base class) some (class_step t plan part base class leads.0))
 visit_looks f purpose p t plan part wanted (Some (Behind j)) same some state inside leads =
-    subst (λ (g : List Datum → List Datum). Looks f t plan wanted (InPart part (Some (Behind j))) (goes_on t part (next_key (λ (r : Row). length (g r.1)) wanted (rows_up_to (λ (r : Row). length (g r.1)) wanted most_rows (rows_behind j (t.states part).rows)))) (flat_map (λ (r : Row). g r.1) (rows_up_to (λ (r : Row). length (g r.1)) wanted most_rows (rows_behind j (t.states part).rows)))) (sym same)
-    (rows_looks f t plan part wanted (InPart part (Some (Behind j))) (rows_behind j (t.states part).rows) some refl
-    ((filtered_rows (settings_of t.options) (λ (r : Row). is_behind j r.0) (t.states part).rows state.rows).rising inside)
-    (λ k stops. of k stops (subst (λ (g : List Datum → List Datum). LeadsTo (settings_of t.options) (t.states part).base (After (Behind j)) (next_key (λ (r : Row). length (g r.1)) wanted (rows_up_to (λ (r : Row). length (g r.1)) wanted most_rows (rows_behind j (t.states part).rows)))) same leads)))
+    subst (λ (g : List Datum → List Datum). Looks f t plan wanted (InPart part (Some (Behind j))) (goes_on t part (next_key (λ (r : Row). length (g r.1)) wanted (rows_up_to (λ (r : Row). length (g r.1)) wanted most_rows (following_rows j (t.states part).rows)))) (flat_map (λ (r : Row). g r.1) (rows_up_to (λ (r : Row). length (g r.1)) wanted most_rows (following_rows j (t.states part).rows)))) (sym same)
+    (rows_looks f t plan part wanted (InPart part (Some (Behind j))) (following_rows j (t.states part).rows) some refl
+    ((filtered_rows (settings_of t.options) (λ (r : Row). is_beyond j r.0) (t.states part).rows state.rows).rising inside)
+    (λ k stops. of k stops (subst (λ (g : List Datum → List Datum). LeadsTo (settings_of t.options) (t.states part).base (After (Behind j)) (next_key (λ (r : Row). length (g r.1)) wanted (rows_up_to (λ (r : Row). length (g r.1)) wanted most_rows (following_rows j (t.states part).rows)))) same leads)))
   where
-    of : (k : Datum) → next_key (gives f) wanted (rows_up_to (gives f) wanted most_rows (rows_behind j (t.states part).rows)) ≡ Some (Behind k)
-        → (next_key (gives f) wanted (rows_up_to (gives f) wanted most_rows (rows_behind j (t.states part).rows)) ≡ None) ⊎ ((l : Datum) × (next_key (gives f) wanted (rows_up_to (gives f) wanted most_rows (rows_behind j (t.states part).rows)) ≡ Some (Behind l)) × IsTrue (is_behind j l))
-        → rows_behind k (t.states part).rows ≡ rows_behind k (rows_behind j (t.states part).rows)
+    of : (k : Datum) → next_key (gives f) wanted (rows_up_to (gives f) wanted most_rows (following_rows j (t.states part).rows)) ≡ Some (Behind k)
+        → (next_key (gives f) wanted (rows_up_to (gives f) wanted most_rows (following_rows j (t.states part).rows)) ≡ None) ⊎ ((l : Datum) × (next_key (gives f) wanted (rows_up_to (gives f) wanted most_rows (following_rows j (t.states part).rows)) ≡ Some (Behind l)) × IsTrue (is_beyond j l))
+        → following_rows k (t.states part).rows ≡ following_rows k (following_rows j (t.states part).rows)
     of k stops (inl none) = absurd (some_none (sym stops ∙ none))
       where
         some_none : Some (Behind k) ≡ None → ⊥
         some_none e = cc
     of k stops (inr (l, is, further)) =
         let one : l ≡ k = same_key (sym is ∙ stops) in
-        further_rows j k (t.states part).rows (subst (λ (i : Datum). is_behind j i ≡ true) one further)
+        further_rows j k (t.states part).rows (subst (λ (i : Datum). is_beyond j i ≡ true) one further)
       where
         same_key : Some (Behind l) ≡ Some (Behind k) → l ≡ k
         same_key e = cc

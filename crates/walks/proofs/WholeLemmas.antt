@@ -1,4 +1,4 @@
--- Whole walks, with the fixes of their own.
+-- Whole walks, with the fixes that they make themselves.
 use Rattle.std.proofs.Common.{◌≡◌, ◌≢◌, ℕ, ◌+◌, ◌<◌, ◌≤◌, sym, subst, ◌∙◌, arith, List, [], ◌∷◌, ◌++◌, length, get_or}
 use Rattle.std.specs.Prelude.{All, Bool, true, false, IfOk, IfErr, Result, Ok, Err}
 use Rattle.std.proofs.Math.Logic.{∥∥₁_map}
@@ -44,7 +44,7 @@ pub released_grown : (h : Home) (own : List Bool) (v w : Views) → AreLegal h.o
 released_grown h own v w legal releases part inside =
     changed_grown h Unfix (get_or own part false) (v part) (w part) (legal part inside) (releases part inside)
 
--- what a call fixed first it holds at the end
+-- what a call fixed first is still fixed at the end
 pub held_by : (h : Home) (w : Walk) (wanted : ℕ → ℕ) (own : List Bool) (at : Position) (gained : List Datum) (v fixed last : Views) → FixesFirst h own v fixed → Stops h w wanted (way fixed (start_of w) []) at gained last → AreHeld h own last
 held_by h w wanted own at gained v fixed last fixes (there, walk, drifted) part inside is_own =
     let f = fixes part inside in
@@ -115,19 +115,19 @@ wholly_answers h w wanted gained v u is_at walk legal x placed =
 
 -- ---- calls
 
--- a walk that came to its end, and nothing behind it
+-- a walk that came to its end, with no further visit
 pub ends_there : (h : Home) (w : Walk) (wanted : ℕ → ℕ) (first : Position) (gained : List Datum) (before now : Views → Type 0) → IsAt h w → IsWalk w → ((v : Views) → before v → AreLegal h.options v) → Follows before now (GoesBy h w wanted first [] Over gained) → Follows before now (λ v u. Stops h w wanted (way v first []) Over gained u)
 ends_there h w wanted first gained before now is_at walk legal goes v b =
     let f = goes v b in
     let there : AreLegal h.options f.0 = subst (λ o. AreLegal o f.0) (sym is_at.options) (grown_legal w.options v f.0 (goes_grown h w wanted (way v first []) (way f.0 Over gained) is_at (subst (λ o. AreLegal o v) is_at.options (legal v b)) f.2)) in
     (f.0, f.1, (f.0, f.2, drifts_nowhere h f.0 there))
 
--- a walk that ended or was refused
+-- a walk that came to its end, or failed
 pub went : {X Y : Type 0} (r : Result X Y) (items : X → List Datum) (h : Home) (w : Walk) (wanted : ℕ → ℕ) (before now : Views → Type 0) → IfOk r (λ x. Follows before now (λ v u. Stops h w wanted (way v (start_of w) []) Over (items x) u)) → IfErr r (λ y. Follows before now (StopsAnywhere h w wanted)) → Follows before now (StopsAnywhere h w wanted)
 went (Ok x) items h w wanted before now ended refused = λ v b. let f = ended v b in (f.0, f.1, (Over, items x, f.2))
 went (Err y) items h w wanted before now ended refused = refused
 
--- what was fixed first is held behind the walk
+-- what was fixed first is still fixed after the walk
 pub held_own : (h : Home) (w : Walk) (wanted : ℕ → ℕ) (own : List Bool) (before fixed now : Views → Type 0) → ∥ ((v : Views) × before v) ∥₁ → Follows before fixed (FixesFirst h own) → Follows fixed now (StopsAnywhere h w wanted) → ∥ ((v : Views) × now v × AreHeld h own v) ∥₁
 held_own h w wanted own before fixed now seen fixes stops =
     ∥∥₁_map seen (λ s.

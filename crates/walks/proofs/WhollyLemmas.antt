@@ -45,7 +45,7 @@ use Rattle.walks.proofs.PlainLemmas.{first_there, plain, starts, table_of}
 
 -- ---- own fixes
 
--- an answered turn is right in the state that was seen, which is one
+-- an answered turn is right in the state that was seen, which satisfies the invariant
 pub turn_right : (h : Home) (old new : History) (act : Act) (answer : Answer) → IsTrue h.alone → TurnedAt h old act (Some answer) new
     → IsRight (settings_of h.options) (state_after (settings_of h.options) old) (record { session = h.number; act = act; answer = answer }) × IsState (settings_of h.options) (state_after (settings_of h.options) old)
 turn_right h old new act answer alone t =
@@ -55,7 +55,7 @@ turn_right h old new act answer alone t =
     let legal : IsLegal o (old ++ last ∷ []) = subst (IsLegal o) grown t.legal in
     ((legal_rest_from o (opening o) old (last ∷ []) legal).0, state_of o old (legal_front_from o (opening o) old (last ∷ []) legal))
 
--- a state with one fix more
+-- a state with one more fix
 abbrev pub fixed_once : ℕ → PartState → PartState
 fixed_once n s =
     record { rows = s.rows; fixes = set s.fixes n (get_or s.fixes n 0 + 1); slots = s.slots; base = s.base }
@@ -75,7 +75,7 @@ fixed_alone h old new alone t =
     sym turned.1 ∙ after_replied o (state_after o old) h.number Fix Nothing (sym turned.0)
     ∙ fixed_shows o h.number (state_after o old) (omega (arith, right.0.session, right.1.sessions))
 
--- and released, it is as it was
+-- a state with one more fix that is released again is as it was
 released_alone : (h : Home) (old new : History) (s : PartState) → IsTrue h.alone → IsState (settings_of h.options) s → h.number < length s.fixes → state_after (settings_of h.options) old ≡ fixed_once h.number s → TurnedAt h old Unfix (Some (Replied Nothing)) new
     → state_after (settings_of h.options) new ≡ s
 released_alone h old new s alone state within is t =
@@ -92,7 +92,7 @@ released_alone h old new s alone state within is t =
     ∙ ap (λ (fixes : List ℕ). state_with o s s.rows fixes) back
     ∙ same_state o s state
 
--- the states of a session that fixed the parts that it doesn't fix
+-- the states after a session fixed the parts that it didn't fix
 abbrev pub held_state : Home → Views → (ℕ → PartState) → ℕ → PartState
 held_state h v states k = record {
   rows = (states k).rows;
@@ -101,7 +101,7 @@ held_state h v states k = record {
   base = (states k).base;
 }
 
--- which are nothing to visits
+-- fixing doesn't change what visits look at
 held_keys : (h : Home) (v : Views) (states : ℕ → PartState) (n : ℕ) (ks : List Datum) → key_sights (table_of h (held_state h v states)) n ks ≡ key_sights (table_of h states) n ks
 held_keys h v states n [] = refl
 held_keys h v states n (k ∷ ks) =

@@ -33,7 +33,7 @@ one n = tuple (items_of (key n ∷ []))
 abbrev options : TableKind → ℕ → Options
 options kind parts = record { name = 0; kind = kind; keypos = 1; parts = parts; sessions = 2 }
 
--- the first element of the object
+-- code that answers the first element of the object
 abbrev first_element : Program
 first_element =
     record { slots = 0; constants = []; instructions = instr.Load ∷ instr.Field 1 ∷ instr.Answer ∷ []; frames = []; around = alone }
@@ -42,7 +42,7 @@ abbrev always : Program
 always =
     record { slots = 0; constants = boolean true ∷ []; instructions = instr.Const 0 ∷ instr.Answer ∷ []; frames = []; around = alone }
 
--- a session does this at the part of a key
+-- the table after a session's operation at the part of a key
 abbrev at_key : TableState → Datum → Act → TableState
 at_key t k act = after_at t 0 (part_of (settings_of t.options) k) act
 
@@ -62,7 +62,7 @@ two_of_five : piece five 2 [] (first_position None) ≡ record { given = key 1 �
 unfolding reply_of after datum_cmp key_hash answer_of
 two_of_five = refl
 
--- a key in a class behind the walk is not met, and one before it is
+-- a key that is inserted in a class before the walk's position is not met, and one in a class after it is
 abbrev five_later : TableState
 five_later = at_key (at_key (at_key five (key 3) (Delete (key 3))) (key 9) (Insert (one 9))) (key 6) (Insert (one 6))
 
@@ -78,7 +78,7 @@ no_more : piece five_later 2 [] Over ≡ record { given = []; kept = []; at = Ov
 unfolding reply_of after datum_cmp key_hash answer_of
 no_more = refl
 
--- answers past the limit are kept, and given out before another visit is made
+-- answers above the limit are kept, and returned before another visit is made
 abbrev in_one_class : TableState
 in_one_class = with_keys Set 1 (1 ∷ 9 ∷ 17 ∷ [])
 
@@ -106,7 +106,7 @@ next_ten : piece tens_later 1 [] (InPart 0 (Some (Behind (key 10)))) ≡ record 
 unfolding reply_of after datum_cmp key_hash answer_of
 next_ten = refl
 
--- behind the last key the end is found by a visit of its own
+-- after the last key a further visit finds the end
 behind_thirty : piece tens_later 1 [] (InPart 0 (Some (Behind (key 30)))) ≡ record { given = []; kept = []; at = Over }
 unfolding reply_of after datum_cmp key_hash answer_of
 behind_thirty = refl
@@ -146,7 +146,7 @@ first_named = refl
 none_named : selected four (Some []) (answer_of first_element) ≡ []
 none_named = refl
 
--- ---- what is true is counted, and goes
+-- ---- objects for which the query returns true are counted, and deleted
 
 none_true : number_true four None (answer_of first_element) ≡ 0
 unfolding reply_of after datum_cmp key_hash answer_of
@@ -160,12 +160,12 @@ removed : ((after_removal four None (answer_of always)).states 1).rows ≡ []
 unfolding reply_of after datum_cmp key_hash answer_of
 removed = refl
 
--- while another session fixes its part, its row stays as a dead one
+-- while another session fixes its part, the row stays as a dead one
 fixed_removed : ((after_removal (at_key four (key 1) Fix) (Some (key 1 ∷ [])) (answer_of always)).states 1).rows ≡ (key 1, []) ∷ (key 3, one 3 ∷ []) ∷ []
 unfolding reply_of after datum_cmp key_hash answer_of
 fixed_removed = refl
 
--- of named keys, those alone, each in its part
+-- if keys are named, only these are deleted, each in its part
 named_removed : map (λ part. ((after_removal four (Some (key 4 ∷ key 1 ∷ key 7 ∷ [])) (answer_of always)).states part).rows) (0 ∷ 1 ∷ []) ≡ ((key 2, one 2 ∷ []) ∷ []) ∷ ((key 3, one 3 ∷ []) ∷ []) ∷ []
 unfolding reply_of after datum_cmp key_hash answer_of
 named_removed = refl

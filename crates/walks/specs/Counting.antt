@@ -1,4 +1,4 @@
--- What walks that count make of what a session sees.
+-- How walks that count change what a session sees.
 use Rattle.std.specs.Prelude.{ℕ, ◌≡◌, ◌++◌, List, [], ◌∷◌, length, min}
 use Rattle.term_core.specs.Datum.{Datum}
 use Rattle.part_core.specs.Replies.{most_counted}
@@ -9,21 +9,21 @@ use Rattle.walk_core.specs.Once.{IsOnce}
 use Rattle.walk_core.specs.Walk.{Walk, Position, is_done}
 use Rattle.walks.specs.Whole.{Wholly, Finishes}
 
--- a number counts these objects, up to the most that is counted
+-- a number is the count of these objects, up to the greatest number that is counted
 abbrev pub IsCount : ℕ → List Datum → Type 0
 IsCount count found = count ≡ min (length found) most_counted
 
--- one visit more, which found so many objects
+-- one more visit, which found `count` objects
 abbrev pub CountsMore : Home → Walk → Position → Position → ℕ → Views → Views → Type 0
 CountsMore h w at later count v u =
     (gained : List Datum)
     → (found : List Datum) × Visits h w whole (way v at gained) (way u later (gained ++ found)) × IsCount count found
 
--- visits, which found so many objects
+-- visits, which found `count` objects
 abbrev pub CountsTo : Home → Walk → Position → Position → ℕ → Views → Views → Type 0
 CountsTo h w at later count v u = (found : List Datum) × Goes h w whole (way v at []) (way u later found) × IsCount count found
 
--- and one that was refused for want of memory
+-- visits, which found `count` objects, and then one that ran out of memory
 abbrev pub StopsAtCount : Home → Walk → Position → Position → ℕ → Views → Views → Type 0
 StopsAtCount h w at later count v u = (found : List Datum) × Stops h w whole (way v at []) later found u × IsCount count found
 
@@ -31,7 +31,7 @@ StopsAtCount h w at later count v u = (found : List Datum) × Stops h w whole (w
 abbrev pub FinishesCount : Home → Walk → ℕ → Views → Views → Type 0
 FinishesCount h w count v u = (found : List Datum) × IsCount count found × Finishes h w whole found v u
 
--- and one that was refused for want of memory on its way, with the number until then
+-- a whole walk that ran out of memory on its way, with the number counted up to then
 abbrev pub GivesUpCount : Home → Walk → ℕ → Views → Views → Type 0
 GivesUpCount h w count v u =
     (at : Position) × (found : List Datum) × IsCount count found × Wholly h w whole at found v u

@@ -19,7 +19,7 @@ use Rattle.walks.specs.declared.fault.WalkFault.TheVariants as fault
 abbrev pub kept_of : {A : Type 0} → Kept A → List Datum
 kept_of kept = kept.earlier.items ++ kept.last.items
 
--- the keys that a walk by a query visits, of a table with these options, where it names them
+-- the keys that a walk with a query visits, in a table with these options, if the query names them
 abbrev pub plan_of : {A : Type 0} → Query A → Options → Option (List Datum)
 plan_of query options = plan_at query.named options.keypos (is_ordered options.kind)
 
@@ -35,11 +35,11 @@ walk_of h purpose query = record {
   to = h.options.parts;
 }
 
--- so a walk by a query can be, of a table with these options
+-- a walk with a query can be at this position, in a table with these options
 abbrev pub IsWithin : {A B : Type 0} → Options → Query A → Position B → Type 0
 IsWithin options query at = IsThere options.parts (walk.named_count (plan_of query options)) (position_of at)
 
--- the numbers of refusals in what programs print
+-- the error codes of the faults
 abbrev pub walk_fault_number : WalkFault → ℕ
 walk_fault_number fault.Memory = 1
 walk_fault_number fault.StrangerContinuation = 62

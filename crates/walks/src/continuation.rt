@@ -1,4 +1,4 @@
-//! Walks in pieces that are under way.
+//! Walks in pieces that are in progress.
 ghost use Rattle.std.specs.Prelude.{◌<◌};
 
 use crate::kept::Kept;
@@ -7,29 +7,29 @@ use term_core::Term;
 use walk_core::Position;
 use walk_query::Query;
 
-/// A walk in pieces under way.
+/// A walk in pieces in progress.
 #[derive(Drop)]
 pub struct Continuation<A: Allocator = Global> {
-    /// What is asked.
+    /// The query.
     pub query: Query<A>,
     /// The name of the table.
     pub table: u64,
     /// The number of the session.
     pub session: u8,
-    /// The most answers in a piece.
+    /// The greatest number of answers in a piece, above 0.
     pub limit: u64,
-    /// How far the walk has come.
+    /// The position of the walk.
     pub at: Position<A>,
-    /// Answers that were found and not given out yet.
+    /// Answers that were found and not returned yet.
     pub kept: Kept<A>,
     ghost some: { 0 < limit },
 }
 
-/// What a call of a walk in pieces answers.
+/// The result of one call of a walk in pieces.
 #[derive(Drop)]
 pub enum Step<A: Allocator = Global> {
-    /// At least one answer, and what the walk goes on from.
+    /// At least one answer, and the walk to continue with.
     Piece(Vec<Term<A>, A>, Continuation<A>),
-    /// There is no answer any more; the query is handed back.
+    /// There are no more answers; the query is handed back.
     End(Query<A>),
 }

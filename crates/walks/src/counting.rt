@@ -22,7 +22,7 @@ use verifier::Verified;
 use walk_core::{Counting, Position, count_op};
 use walk_query::Query;
 
-/// How many a visit counted, and where the walk goes on.
+/// Returns the number of a reply that counts, and where the walk goes on.
 fn counted<A: Allocator>(reply: Reply<A>) -> (u64, Option<Cursor<A>>)
     requires { IsTrue (is_counted (Replied (said_of reply))) }
     ensures { said_of reply ≡ Counted result.0 (option_map cursor_of result.1) }
@@ -34,7 +34,8 @@ fn counted<A: Allocator>(reply: Reply<A>) -> (u64, Option<Cursor<A>>)
     }
 }
 
-/// Counts in a part.
+/// Makes a visit that counts or deletes at a part. Returns the number, and where the walk goes on. Fails if the cursor
+/// isn't the part's or an allocation fails.
 fn count_at<A: Allocator, T: Turns<A>>(
     turns: &mut T,
     counting: Counting,
@@ -59,7 +60,8 @@ fn count_at<A: Allocator, T: Turns<A>>(
     Ok(counted(reply))
 }
 
-/// Makes the next visit of a walk that counts, and answers how many it counted.
+/// Makes the next visit of a walk that counts or deletes, and returns the number. If it fails, the position is
+/// unchanged.
 fn count_next<A: Allocator, T: Turns<A>>(
     turns: &mut T,
     query: &Query<A>,
@@ -85,14 +87,15 @@ fn count_next<A: Allocator, T: Turns<A>>(
     Ok(count)
 }
 
-/// Two counts together, at most 2^64 - 1.
+/// Returns the sum of two counts, at most 2^64 - 1.
 fn capped_sum(total: u64, count: u64) -> u64
     ensures { result ≡ min (total + count) most_counted }
 {
     total.saturating_add(count)
 }
 
-/// Makes visits from where a walk is to its end, and adds up what they count.
+/// Makes visits from the walk's position to its end, and adds what they count to `total`. If a visit fails, `at` and
+/// `total` are those up to then. Fails with `Memory` also after 2^64 - 1 visits.
 pub(crate) fn count_on<A: Allocator, T: Turns<A>>(
     turns: &mut T,
     query: &Query<A>,

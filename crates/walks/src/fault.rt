@@ -1,14 +1,14 @@
-//! Why a walk is refused.
+//! Why a walk is rejected.
 use std::alloc::AllocError;
 use thiserror::Error;
 
-/// Why a walk in pieces is refused.
+/// Why a walk in pieces is rejected.
 #[derive(Clone, Copy, Debug, PartialEq, Eq, Error)]
 pub enum WalkFault {
-    /// No memory was given.
+    /// An allocation failed.
     #[error("out of memory")]
     Memory,
-    /// The walk is one of another table, or of another session.
+    /// The walk was begun at another table, or by another session.
     #[error("the walk is another's")]
     StrangerContinuation,
     /// The limit is 0.
@@ -31,7 +31,7 @@ impl WalkFault {
     ghost use Rattle.std.specs.Prelude.{◌≡◌};
     ghost use Rattle.walks.specs.Query.{walk_fault_number};
 
-    /// The number that the fault has in what programs print.
+    /// Returns the error code that programs print: 1 for out of memory, 62 or 63.
     pub const fn number(self) -> u8
         ensures { result ≡ walk_fault_number self }
     {

@@ -1,16 +1,15 @@
-//! Answers that were not given out yet.
+//! Answers that were not returned yet.
 use std::alloc::{AllocError, Allocator, Global};
 use std::collections::VecDeque;
 use std::mem;
 use term_core::Term;
 
-/// Answers that were not given out yet; those of the last visit apart, so that no memory is needed to keep what a visit
-/// found.
+/// Answers that were not returned yet. Those of the last visit are kept apart, so that keeping them needs no memory.
 #[derive(Drop)]
 pub struct Kept<A: Allocator = Global> {
-    /// Those before.
+    /// Answers of earlier visits.
     pub earlier: VecDeque<Term<A>, A>,
-    /// Those of the last visit.
+    /// Answers of the last visit.
     pub last: VecDeque<Term<A>, A>,
 }
 
@@ -18,7 +17,8 @@ impl<A: Allocator> Kept<A> {
     ghost use Rattle.std.specs.Prelude.{◌≡◌, ◌<◌, ◌≤◌, ◌++◌, [], IfOk, IfErr, take, drop, length};
     ghost use Rattle.walks.specs.Query.{kept_of};
 
-    /// Puts the answers of the last visit behind those before.
+    /// Appends the answers of the last visit to the earlier ones. If an allocation fails, returns an error, and no
+    /// answer is lost.
     pub(crate) fn settle(&mut self) -> Result<(), AllocError>
         ensures same { kept_of self.new ≡ kept_of self.old }
         ensures settled { IfOk result (λ _. self.new.last.items ≡ []) }
@@ -26,7 +26,7 @@ impl<A: Allocator> Kept<A> {
         self.earlier.append(&mut self.last)
     }
 
-    /// How many there are but for the last visit's.
+    /// Returns the number of answers, without those of the last visit.
     pub(crate) fn len(&self) -> u64
         ensures length { result ≡ length self.now.earlier.items }
         ensures small { result < 18446744073709551615 }
@@ -34,7 +34,7 @@ impl<A: Allocator> Kept<A> {
         self.earlier.len() as u64
     }
 
-    /// Takes in what a visit found.
+    /// Takes the answers of a visit as those of the last visit, of which there must be none.
     pub(crate) fn hold(&mut self, answers: Vec<Term<A>, A>)
         requires { self.old.last.items ≡ [] }
         ensures { kept_of self.new ≡ kept_of self.old ++ answers.items }
@@ -47,7 +47,7 @@ impl<A: Allocator + Copy> Kept<A> {
     ghost use Rattle.std.specs.Prelude.{◌≡◌, ◌≤◌, ◌<◌, ◌++◌, [], IfOk, IfErr, take, drop, length};
     ghost use Rattle.walks.specs.Query.{kept_of};
 
-    /// No answers.
+    /// Returns no answers.
     pub(crate) fn new(alloc: A) -> Self
         ensures none { kept_of result ≡ [] }
         ensures settled { result.last.items ≡ [] }
@@ -58,7 +58,7 @@ impl<A: Allocator + Copy> Kept<A> {
         }
     }
 
-    /// All of them.
+    /// Takes all answers of earlier visits.
     fn take_all(&mut self, alloc: A) -> Vec<Term<A>, A>
         ensures none { self.new.earlier.items ≡ [] }
         ensures last { self.new.last ≡ self.old.last }
@@ -67,7 +67,8 @@ impl<A: Allocator + Copy> Kept<A> {
         mem::replace(&mut self.earlier, VecDeque::new(alloc)).into_vec()
     }
 
-    /// The first ones, as many as the limit.
+    /// Takes the first `limit` answers of earlier visits. If an allocation fails, returns an error, and they are
+    /// unchanged.
     fn take_first(&mut self, alloc: A, limit: usize) -> Result<Vec<Term<A>, A>, AllocError>
         requires { limit ≤ length self.old.earlier.items }
         ensures first { IfOk result (λ piece. (piece.items ≡ take limit self.old.earlier.items)
@@ -84,7 +85,8 @@ impl<A: Allocator + Copy> Kept<A> {
         Ok(piece)
     }
 
-    /// Gives out the first ones, at most as many as the limit.
+    /// Takes the first answers, at most `limit`. There must be none of the last visit. If an allocation fails, returns
+    /// an error, and the answers are unchanged.
     pub(crate) fn piece(&mut self, alloc: A, limit: u64) -> Result<Vec<Term<A>, A>, AllocError>
         requires { self.old.last.items ≡ [] }
         ensures given { IfOk result (λ piece. (piece.items ≡ take limit (kept_of self.old))

@@ -13,7 +13,7 @@ use std::alloc::{AllocError, Allocator};
 use tables::{Turns, part_of_key, turn_at};
 use term_core::Term;
 
-/// The key of a reply, none at the end.
+/// Returns the key of a reply, or `None` at the end.
 fn key_in<A: Allocator>(reply: Reply<A>) -> Option<Term<A>>
     requires { IsTrue (is_at_key (Replied (said_of reply))) }
     ensures { said_of reply ≡ AtKey result }
@@ -25,7 +25,7 @@ fn key_in<A: Allocator>(reply: Reply<A>) -> Option<Term<A>>
     }
 }
 
-/// The operation that asks for the first key of a part.
+/// Returns the operation that requests the first key of a part.
 // A call, since the borrow checker gives the bare variant's lifetime no bound.
 fn first_op<'a, A: Allocator>() -> PartOp<'a, A>
     ensures { act_of result ≡ First }
@@ -33,7 +33,7 @@ fn first_op<'a, A: Allocator>() -> PartOp<'a, A>
     PartOp::First
 }
 
-/// The first key of a part.
+/// Returns the first key of a part that has objects, or `None`. Fails if an allocation fails.
 fn first_at<A: Allocator, T: Turns<A>>(
     turns: &mut T,
     part: u8,
@@ -53,7 +53,7 @@ fn first_at<A: Allocator, T: Turns<A>>(
     }
 }
 
-/// The first key of the parts from one on.
+/// Returns the first key of the parts from `from` on that has objects, or `None`. Fails if an allocation fails.
 fn first_from<A: Allocator, T: Turns<A>>(
     turns: &mut T,
     from: u8,
@@ -75,7 +75,8 @@ fn first_from<A: Allocator, T: Turns<A>>(
     Ok(None)
 }
 
-/// The key behind another in its part.
+/// Returns the key after another in its part that has objects, or `None` at the part's end. Fails if the key has no row
+/// in a set, or if an allocation fails.
 fn next_at<A: Allocator, T: Turns<A>>(
     turns: &mut T,
     part: u8,
@@ -94,7 +95,8 @@ fn next_at<A: Allocator, T: Turns<A>>(
     Ok(key_in(reply))
 }
 
-/// The first key in the order of a walk, none of a table without objects (ets:first/1).
+/// Returns the first key in walk order, or `None` for a table without objects (ets:first/1). Makes a turn at each part
+/// until one has a key. Fails if an allocation fails.
 pub fn first<A: Allocator, T: Turns<A>>(turns: &mut T) -> Result<Option<Term<A>>, AllocError>
     requires { T.is_ready turns.old }
     ensures ready { T.is_ready turns.new }
@@ -107,8 +109,9 @@ pub fn first<A: Allocator, T: Turns<A>>(turns: &mut T) -> Result<Option<Term<A>>
     first_from(turns, 0)
 }
 
-/// The key behind another in the order of a walk, none at the end (ets:next/2). In a set the other must have a row,
-/// dead or live, else it is refused (`BadKey`); in an ordered set it can be any term.
+/// Returns the key after another in walk order that has objects, or `None` at the end (ets:next/2). In a set the other
+/// key must have a row, dead or live; otherwise fails with `BadKey`. In an ordered set it can be any term. Also fails
+/// if an allocation fails.
 pub fn next<A: Allocator, T: Turns<A>>(
     turns: &mut T,
     key: &Term<A>,

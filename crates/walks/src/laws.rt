@@ -4,27 +4,28 @@ ghost use Rattle.walks.specs.Laws.{WholeWalksGoInOrder};
 
 use std::alloc::Allocator;
 
-/// A whole walk looks at each row once, in the order of the walk.
+/// A whole walk without named keys looks at each row once, in walk order.
 pub fn whole_walks_go_in_order()
     ensures { WholeWalksGoInOrder }
 {}
 
-/// Where a session is alone, a step of a walk in pieces gives out the piece of the definitions.
+/// If a session is alone, a step of a walk in pieces returns the piece of the definitions.
 pub fn steps_are_pieces<A: Allocator>()
     ensures { StepsArePieces A }
 {}
 
-/// A whole walk answers there all that is selected.
+/// If a session is alone, a whole walk returns all answers that are selected.
 pub fn whole_walks_select<A: Allocator>()
     ensures { WholeWalksSelect A }
 {}
 
-/// One that counts gives there the number of objects that are answered true.
+/// If a session is alone, a whole walk that counts returns the number of objects for which the query returns `true`.
 pub fn whole_walks_count<A: Allocator>()
     ensures { WholeWalksCount A }
 {}
 
-/// One that deletes gives their number too, and leaves the table without them.
+/// If a session is alone, a whole walk that deletes returns the number of objects for which the query returns `true`,
+/// and leaves the table without them.
 pub fn whole_walks_remove<A: Allocator>()
     ensures { WholeWalksRemove A }
 {}

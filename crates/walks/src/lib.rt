@@ -1,18 +1,18 @@
-//! Walks through tables, over any session.
+//! Walks through tables, for any session.
 //!
-//! The one contract: a call makes visits, one behind the other, and over every interleaving its answers are those of
-//! `walk_core`: for each key once, what the query answers on the key's objects at one moment of the walk
+//! The one contract: a call makes visits, one after the other, and in every interleaving its answers are those of
+//! `walk_core`: for each key once, what the query answers for the key's objects at one moment of the walk
 //! (`specs/Pieces.antt`, `specs/Whole.antt`). `first` and `next` make turns at the parts in their order until one has a
-//! key (`specs/Keys.antt`). A walk makes at most 2^64 - 1 visits, since others may feed one through an ordered set as it
-//! goes, and is refused behind them as for want of memory: no run comes to that.
+//! key (`specs/Keys.antt`). A walk makes at most 2^64 - 1 visits, since other sessions may extend one through an
+//! ordered set while it runs. After that many visits it fails as if out of memory; no run gets there.
 //!
-//! - `walk_query::Query`: what is asked, and of which keys alone; `walk_core::Position`, `position`: how far a walk has
-//!   come, and where it goes on; `kept`, `continuation`: what it keeps.
+//! - `walk_query::Query`: the query, with its named keys; `walk_core::Position`, `position`: the position of a walk,
+//!   and where it goes on; `kept`, `continuation`: what it keeps.
 //! - `visit`: visits up to a limit; `counting`: visits that count or delete.
-//! - `pieces`: `select_limit` and `select_more`, and each for callers that have looked at what it refuses; `whole`:
-//!   `select`, `select_count` and `select_delete`; `own`: the fixes that these make.
+//! - `pieces`: `select_limit` and `select_more`, and for callers that have checked the input `select_first` and
+//!   `select_next`; `whole`: `select`, `select_count` and `select_delete`; `own`: the fixes that these make.
 //! - `keys`: `first` and `next`.
-//! - `laws`: what walks come to where a session is alone (`specs/Alone.antt`), by what walks visit on one thread
+//! - `laws`: what walks return if a session is alone (`specs/Alone.antt`), in terms of what walks visit on one thread
 //!   (`specs/Sights.antt`).
 #![tactic(auto)]
 

@@ -1,4 +1,4 @@
-//! Fixes that a call makes first, and releases at its end.
+//! Fixes that a call makes at its beginning, and releases at its end.
 ghost use Rattle.std.specs.Prelude.{ℕ, ◌≡◌, false, replicate};
 ghost use Rattle.tables.specs.Turns.{Views, Follows};
 ghost use Rattle.walks.specs.Own.{AreHeld, FixesFirst, Releases};
@@ -6,17 +6,17 @@ ghost use Rattle.walks.specs.Own.{AreHeld, FixesFirst, Releases};
 use std::alloc::Allocator;
 use tables::{Turns, fix_at, unfix_at};
 
-/// Of each part, by its number, whether a call fixed it.
+/// For each part, by its number, whether a call fixed it.
 pub(crate) type OwnFixes = [bool; 256];
 
-/// No part.
+/// Returns the fixes of a call that has fixed no part.
 fn none_own() -> OwnFixes
     ensures { result ≡ replicate 256 false }
 {
     [false; 256]
 }
 
-/// Fixes each part of a set that the session doesn't fix, and tells which.
+/// Fixes each part of a set or bag that the session doesn't fix, and returns which. Fixes no part of an ordered set.
 pub(crate) fn fix_own<A: Allocator, T: Turns<A>>(turns: &mut T) -> OwnFixes
     requires { T.is_ready turns.old }
     ensures ready { T.is_ready turns.new }
@@ -37,7 +37,7 @@ pub(crate) fn fix_own<A: Allocator, T: Turns<A>>(turns: &mut T) -> OwnFixes
     own
 }
 
-/// Releases a fix of each of these parts.
+/// Releases a fix of each of the parts in `own`.
 pub(crate) fn release_own<A: Allocator, T: Turns<A>>(turns: &mut T, own: &OwnFixes)
     requires ready { T.is_ready turns.old }
     requires held { ∥ ((v : Views) × T.sees turns.old v × AreHeld (T.home turns.old) own.now v) ∥₁ }

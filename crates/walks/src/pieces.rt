@@ -19,7 +19,7 @@ use term_core::{Refused, Term};
 use walk_core::Position;
 use walk_query::Query;
 
-/// What a refused visit comes to: a walk that can't go on where it is was begun at another table.
+/// Converts the fault of a visit: `Memory` stays, and any other means that the walk was begun at another table.
 fn fault_of(fault: Fault) -> WalkFault
     ensures scarce { (fault ≡ Fault.Memory) → result ≡ WalkFault.Memory }
     ensures other { (fault ≢ Fault.Memory) → result ≡ WalkFault.StrangerContinuation }
@@ -34,7 +34,7 @@ fn fault_of(fault: Fault) -> WalkFault
     }
 }
 
-/// A piece is given out, unless it has no answer.
+/// Returns the piece with the walk to continue, or the end with the query if the piece has no answer.
 fn step_of<A: Allocator>(walk: Continuation<A>, piece: Vec<Term<A>, A>) -> Step<A>
     ensures { IsStepOf walk piece.items result }
 {
@@ -45,7 +45,9 @@ fn step_of<A: Allocator>(walk: Continuation<A>, piece: Vec<Term<A>, A>) -> Step<
     }
 }
 
-/// Makes visits until there are as many answers as the limit, or the walk is at its end, and gives out so many.
+/// Makes visits until there are `limit` answers, or the walk is at its end, and returns at most `limit` answers. Fails
+/// if an allocation fails, or with `StrangerContinuation` if the walk can't be at its position here. `at` and `kept`
+/// are then those up to the failure.
 pub(crate) fn next_piece<A: Allocator + Copy, T: Turns<A>>(
     alloc: A,
     turns: &mut T,
@@ -77,7 +79,8 @@ pub(crate) fn next_piece<A: Allocator + Copy, T: Turns<A>>(
     }
 }
 
-/// Makes visits until a piece can be given out, or the walk is at its end.
+/// Makes visits until a piece can be returned, or the walk is at its end. An error hands the walk back, with the visits
+/// that were made and what they found.
 fn go_on<A: Allocator + Copy, T: Turns<A>>(
     alloc: A,
     turns: &mut T,
@@ -120,7 +123,7 @@ fn go_on<A: Allocator + Copy, T: Turns<A>>(
     }
 }
 
-/// The query of a walk that was refused.
+/// Returns the error with the query of the walk.
 fn query_refused<A: Allocator>(
     refused: Refused<Continuation<A>, WalkFault>,
 ) -> Refused<Query<A>, WalkFault>
@@ -133,7 +136,7 @@ fn query_refused<A: Allocator>(
     }
 }
 
-/// Whether a walk was begun at the table with this name, by the session with this number.
+/// Returns whether a walk was begun at the table with this name, by the session with this number.
 fn is_own<A: Allocator>(walk: &Continuation<A>, table: u64, session: u8) -> bool
     ensures { MatchBool result ((walk.now.table ≡ table) × (walk.now.session ≡ session))
         (¬ ((walk.now.table ≡ table) × (walk.now.session ≡ session))) }
@@ -141,8 +144,8 @@ fn is_own<A: Allocator>(walk: &Continuation<A>, table: u64, session: u8) -> bool
     walk.table == table && walk.session == session
 }
 
-/// Begins a walk in pieces of at most so many answers each, and at least one: `select_limit`, for callers that have
-/// looked at the limit. What is refused is handed back.
+/// Begins a walk in pieces of at most `limit` answers each. The limit must be at least 1: for callers that have checked
+/// it, unlike `select_limit`. If an allocation fails, the error hands the query back.
 pub fn select_first<A: Allocator + Copy, T: Turns<A>>(
     alloc: A,
     turns: &mut T,
@@ -174,8 +177,8 @@ pub fn select_first<A: Allocator + Copy, T: Turns<A>>(
     }
 }
 
-/// Begins a walk in pieces of at most so many answers each (ets:select/3). A limit of 0 is refused before any turn;
-/// what is refused is handed back.
+/// Begins a walk in pieces of at most `limit` answers each (ets:select/3). A limit of 0 is rejected with `BadLimit`
+/// before any turn. Also fails if an allocation fails. The error hands the query back.
 pub fn select_limit<A: Allocator + Copy, T: Turns<A>>(
     alloc: A,
     turns: &mut T,
@@ -202,8 +205,9 @@ pub fn select_limit<A: Allocator + Copy, T: Turns<A>>(
     select_first(alloc, turns, query, limit)
 }
 
-/// Carries a walk in pieces on that was begun by this session at this table: `select_more`, for callers that know whose
-/// it is. What is refused is handed back, with the visits that were made and what they found.
+/// Continues a walk in pieces that was begun by this session at this table: for callers that know this, unlike
+/// `select_more`. Fails if an allocation fails, or if the walk can't be at its position here. The error hands the walk
+/// back, with the visits that were made and what they found.
 pub fn select_next<A: Allocator + Copy, T: Turns<A>>(
     alloc: A,
     turns: &mut T,
@@ -232,8 +236,9 @@ pub fn select_next<A: Allocator + Copy, T: Turns<A>>(
     go_on(alloc, turns, walk)
 }
 
-/// Carries a walk in pieces on (ets:select/1). A walk of another table or session is refused before any turn. What is
-/// refused is handed back, with the visits that were made and what they found.
+/// Continues a walk in pieces (ets:select/1). A walk of another table or session is rejected with
+/// `StrangerContinuation` before any turn. Also fails if an allocation fails. The error hands the walk back, with the
+/// visits that were made and what they found.
 pub fn select_more<A: Allocator + Copy, T: Turns<A>>(
     alloc: A,
     turns: &mut T,

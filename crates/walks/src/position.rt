@@ -1,4 +1,4 @@
-//! Where a walk by a query begins, what its next visit looks at, and where it goes on.
+//! Where a walk with a query begins, what its next visit looks at, and where it goes on.
 ghost use Rattle.std.specs.Prelude.{◌≡◌, ◌≢◌, ◌<◌, option_map};
 ghost use Rattle.part_core.specs.Acts.{Purpose};
 ghost use Rattle.part_core.specs.Ops.{cursor_of, scope_of};
@@ -11,10 +11,10 @@ use part_core::{Cursor, Scope};
 use std::alloc::Allocator;
 use tables::{Turns, part_of_key};
 use term_core::Term;
-use walk_core::{Position, at_key, at_part, behind, behind_key, scope_from};
+use walk_core::{Position, after_key, at_key, at_part, behind, scope_from};
 use walk_query::Query;
 
-/// How many keys a walk by a query visits, 0 where it visits parts.
+/// Returns how many named keys a walk with a query visits, or 0 if it visits parts.
 pub(crate) fn named_count<A: Allocator, T: Turns<A>>(turns: &T, query: &Query<A>) -> usize
     ensures { result ≡ named_count (plan_of query.now (T.home turns.now).options) }
 {
@@ -25,7 +25,7 @@ pub(crate) fn named_count<A: Allocator, T: Turns<A>>(turns: &T, query: &Query<A>
     }
 }
 
-/// The key of a number among those that a walk by a query visits.
+/// Returns the key with a number among those that a walk with a query visits.
 fn named_at<'q, A: Allocator, T: Turns<A>>(
     turns: &T,
     query: &'q Query<A>,
@@ -41,7 +41,8 @@ fn named_at<'q, A: Allocator, T: Turns<A>>(
     }
 }
 
-/// Where a walk by a query begins: at the first of the keys that are named, if keys are, else at the first part.
+/// Returns the position where a walk with a query begins: at the first named key, if keys are named, else at the first
+/// part.
 pub(crate) fn start<A: Allocator, T: Turns<A>>(turns: &T, query: &Query<A>) -> Position<A>
     ensures at { position_of result
         ≡ start_by (plan_of query.now (T.home turns.now).options) 0 (T.home turns.now).options.parts }
@@ -54,7 +55,7 @@ pub(crate) fn start<A: Allocator, T: Turns<A>>(turns: &T, query: &Query<A>) -> P
     }
 }
 
-/// The part of the next visit of a walk, and what the visit looks at.
+/// Returns the part of the next visit of a walk, and what the visit looks at. The walk must not be at its end.
 pub(crate) fn next_visit<'q, A: Allocator, T: Turns<A>>(
     turns: &T,
     query: &'q Query<A>,
@@ -79,8 +80,8 @@ pub(crate) fn next_visit<'q, A: Allocator, T: Turns<A>>(
     }
 }
 
-/// Where a walk is behind the visit of where it was.
-fn behind_visit<A: Allocator, T: Turns<A>>(
+/// Returns the position after the visit at a position; `next` is the cursor that the visit returned.
+fn after_visit<A: Allocator, T: Turns<A>>(
     turns: &T,
     query: &Query<A>,
     at: &Position<A>,
@@ -93,12 +94,12 @@ fn behind_visit<A: Allocator, T: Turns<A>>(
 {
     match at {
         Position::InPart(part, _) => behind(*part, next, turns.options().parts),
-        Position::AtNamed(number) => behind_key(*number, named_count(turns, query)),
+        Position::AtNamed(number) => after_key(*number, named_count(turns, query)),
         Position::Over => Position::Over,
     }
 }
 
-/// Moves on behind a visit.
+/// Moves the position on after a visit that returned the cursor `next`.
 pub(crate) fn move_on<A: Allocator, T: Turns<A>>(
     turns: &T,
     query: &Query<A>,
@@ -110,5 +111,5 @@ pub(crate) fn move_on<A: Allocator, T: Turns<A>>(
         (walk_of (T.home turns.now) purpose query.now) (position_of at.old) (option_map cursor_of next) }
     ensures within { IsWithin (T.home turns.now).options query.now at.new }
 {
-    *at = behind_visit(turns, query, at, next);
+    *at = after_visit(turns, query, at, next);
 }

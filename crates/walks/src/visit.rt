@@ -23,7 +23,7 @@ use verifier::Verified;
 use walk_core::Position;
 use walk_query::Query;
 
-/// What a visit found, and where the walk goes on.
+/// Returns the answers of a reply that found some, and where the walk goes on.
 fn found<A: Allocator>(reply: Reply<A>) -> (Vec<Term<A>, A>, Option<Cursor<A>>)
     requires { IsTrue (is_found (Replied (said_of reply))) }
     ensures { said_of reply ≡ Found result.0.items (option_map cursor_of result.1) }
@@ -35,7 +35,8 @@ fn found<A: Allocator>(reply: Reply<A>) -> (Vec<Term<A>, A>, Option<Cursor<A>>)
     }
 }
 
-/// Visits a part.
+/// Makes a visit at a part, with a target of `wanted` answers. Returns the answers, and where the walk goes on. Fails
+/// if the cursor isn't the part's or an allocation fails.
 fn visit_at<A: Allocator, T: Turns<A>>(
     turns: &mut T,
     part: u8,
@@ -64,7 +65,8 @@ fn visit_at<A: Allocator, T: Turns<A>>(
     Ok(found(reply))
 }
 
-/// Makes the next visit of a walk, which wants so many answers, and keeps what it finds.
+/// Makes the next visit of a walk, with a target of `wanted` answers, and keeps what it finds. If it fails, `at` and
+/// `kept` are unchanged.
 pub(crate) fn visit_next<A: Allocator, T: Turns<A>>(
     turns: &mut T,
     query: &Query<A>,
@@ -95,7 +97,8 @@ pub(crate) fn visit_next<A: Allocator, T: Turns<A>>(
     Ok(())
 }
 
-/// Makes visits until there are as many answers as the limit, or the walk is at its end.
+/// Makes visits until there are `limit` answers, or the walk is at its end. If a visit fails, `at` and `kept` are those
+/// up to then. Fails with `Memory` also after 2^64 - 1 visits.
 pub(crate) fn visit_up_to<A: Allocator, T: Turns<A>>(
     turns: &mut T,
     query: &Query<A>,

@@ -22,7 +22,7 @@ use term_core::{Refused, Term};
 use walk_core::Counting;
 use walk_query::Query;
 
-/// All answers of a walk.
+/// Returns all answers of a walk. Fails if an allocation fails. Adds no fixes.
 fn gather<A: Allocator + Copy, T: Turns<A>>(
     alloc: A,
     turns: &mut T,
@@ -42,8 +42,8 @@ fn gather<A: Allocator + Copy, T: Turns<A>>(
     next_piece(alloc, turns, query, u64::MAX, &mut at, &mut kept)
 }
 
-/// The answers of a query on the objects of a table (ets:select/2). The parts of a set that the session doesn't fix are
-/// fixed first and released at the end, also where the call is refused.
+/// Returns the answers of a query for the objects of a table (ets:select/2). The parts of a set or bag that the session
+/// doesn't fix are fixed first, and released at the end, also if the call fails. Fails if an allocation fails.
 pub fn select<A: Allocator + Copy, T: Turns<A>>(
     alloc: A,
     turns: &mut T,
@@ -66,7 +66,9 @@ pub fn select<A: Allocator + Copy, T: Turns<A>>(
     }
 }
 
-/// How many objects answer true; a refusal has the number until then.
+/// Makes a whole walk, and returns the number of objects for which the query returns `true`, at most 2^64 - 1. With
+/// `Counting::Delete`, also deletes these objects. Adds no fixes. If an allocation fails, the error has the number up
+/// to then.
 fn tally<A: Allocator, T: Turns<A>>(
     turns: &mut T,
     query: &Query<A>,
@@ -93,7 +95,8 @@ fn tally<A: Allocator, T: Turns<A>>(
     }
 }
 
-/// Counts, with the fixes of its own.
+/// Makes a whole walk that counts or deletes. The parts of a set or bag that the session doesn't fix are fixed first,
+/// and released at the end, also if the walk fails. If an allocation fails, the error has the number up to then.
 fn count_table<A: Allocator, T: Turns<A>>(
     turns: &mut T,
     query: &Query<A>,
@@ -113,8 +116,9 @@ fn count_table<A: Allocator, T: Turns<A>>(
     counted
 }
 
-/// How many objects of a table answer `true` to a query, at most 2^64 - 1 (ets:select_count/2). The parts of a set that
-/// the session doesn't fix are fixed first and released at the end, also where the call is refused.
+/// Returns the number of objects of a table for which a query returns `true`, at most 2^64 - 1 (ets:select_count/2).
+/// The parts of a set or bag that the session doesn't fix are fixed first, and released at the end, also if the call
+/// fails. Fails if an allocation fails.
 pub fn select_count<A: Allocator, T: Turns<A>>(
     turns: &mut T,
     query: &Query<A>,
@@ -133,9 +137,10 @@ pub fn select_count<A: Allocator, T: Turns<A>>(
     }
 }
 
-/// Deletes the objects of a table that answer `true` to a query, each in the turn in which it was asked, and answers
-/// how many, at most 2^64 - 1 (ets:select_delete/2); a refusal has the number until then. The parts of a set that the
-/// session doesn't fix are fixed first and released at the end, also where the call is refused.
+/// Deletes the objects of a table for which a query returns `true`, and returns their number, at most 2^64 - 1
+/// (ets:select_delete/2). Each is deleted in the turn in which it was evaluated. The parts of a set or bag that the
+/// session doesn't fix are fixed first, and released at the end, also if the call fails. If an allocation fails, the
+/// error has the number deleted up to then, and these deletions stay.
 pub fn select_delete<A: Allocator, T: Turns<A>>(
     turns: &mut T,
     query: &Query<A>,

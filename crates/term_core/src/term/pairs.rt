@@ -12,7 +12,7 @@ use crate::fault::{Fault, Refused};
 use crate::{MAX_DEPTH, MAX_MAP};
 use std::alloc::{AllocError, Allocator};
 
-/// The greatest depth among the keys and values of these pairs, 0 where there is none.
+/// Returns the greatest depth of the keys and values of these pairs, 0 if there are none.
 fn deepest_pair<A: Allocator>(pairs: &[(Term<A>, Term<A>)]) -> u8
     ensures value { result ≡ entries_depth (entries_of pairs.now) }
     ensures sound { AllByRecursion IsPairSound pairs.now }
@@ -24,7 +24,7 @@ fn deepest_pair<A: Allocator>(pairs: &[(Term<A>, Term<A>)]) -> u8
     deepest
 }
 
-/// How deep the map of these pairs is, or which limit it is past.
+/// Returns the depth of the map of these pairs. Fails if it would be too deep or too long.
 fn map_depth<A: Allocator>(pairs: &[(Term<A>, Term<A>)]) -> Result<u8, Fault>
     ensures ok { IfOk result (λ d. IsMapDepth d pairs.now) }
     ensures refused { IfErr result (λ fault. IsMapFault fault pairs.now) }
@@ -39,7 +39,7 @@ fn map_depth<A: Allocator>(pairs: &[(Term<A>, Term<A>)]) -> Result<u8, Fault>
     Ok(deepest + 1)
 }
 
-/// Whether each key stands before the next.
+/// Returns whether the keys are in strictly ascending order.
 fn is_rising<A: Allocator>(pairs: &[(Term<A>, Term<A>)]) -> bool
     ensures { IsTrue result ↔ AreRising (entries_of pairs.now) }
 {
@@ -51,7 +51,7 @@ fn is_rising<A: Allocator>(pairs: &[(Term<A>, Term<A>)]) -> bool
     true
 }
 
-/// The keys of these pairs.
+/// Returns references to the keys of these pairs, in the order of the pairs.
 fn keys<'a, A: Allocator>(
     alloc: A,
     pairs: &'a [(Term<A>, Term<A>)],
@@ -65,7 +65,7 @@ fn keys<'a, A: Allocator>(
     Ok(keys)
 }
 
-/// Whether all of these terms, which do not fall, differ.
+/// Returns whether all of these terms differ. Requires that they are sorted in ascending order.
 pub fn neighbours_differ<A: Allocator>(terms: &[&Term<A>]) -> bool
     requires { IsSorted (λ a b. datum_cmp a.now b.now) terms.now }
     ensures { IsTrue result ↔ IsDistinct (eq_by_cmp datum_cmp)
@@ -79,7 +79,7 @@ pub fn neighbours_differ<A: Allocator>(terms: &[&Term<A>]) -> bool
     true
 }
 
-/// Whether a key stands twice among these pairs.
+/// Returns whether a key occurs twice among these pairs.
 fn has_twin<A: Allocator>(alloc: A, pairs: &[(Term<A>, Term<A>)]) -> Result<bool, AllocError>
     ensures { IfOk result (λ twin. IsTrue twin ↔ HasTwice pairs.now) }
 {
@@ -88,7 +88,7 @@ fn has_twin<A: Allocator>(alloc: A, pairs: &[(Term<A>, Term<A>)]) -> Result<bool
     Ok(!neighbours_differ(keys.as_slice()))
 }
 
-/// Copies of these pairs.
+/// Returns copies of these pairs, in their order.
 fn copy_pairs<A: Allocator>(
     alloc: A,
     pairs: &[(Term<A>, Term<A>)],
@@ -102,7 +102,8 @@ fn copy_pairs<A: Allocator>(
     Ok(copies)
 }
 
-/// The map of pairs whose keys differ.
+/// Makes the map of pairs in any order whose keys all differ. On failure, which is out of memory, hands the pairs back
+/// in their order.
 fn sorted_map<A: Allocator + Copy>(
     alloc: A,
     depth: u8,
@@ -113,7 +114,7 @@ fn sorted_map<A: Allocator + Copy>(
     ensures ok { IfOk result (λ t. IsMapOf pairs.items t) }
     ensures refused { IfErr result (λ r. (r.value.items ≡ pairs.items) × (r.fault ≡ Fault.Memory)) }
 {
-    // Copies are sorted, so that the pairs are handed back in their order where there is no memory.
+    // Copies are sorted instead of the pairs, so that the pairs are handed back in their order if memory runs out.
     let Ok(mut sorted) = copy_pairs(alloc, pairs.as_slice()) else {
         return Err(Refused {
             value: pairs,
@@ -135,8 +136,9 @@ impl<A: Allocator + Copy> Term<A> {
     ghost use Rattle.term_core.specs.Datum.{Datum};
     ghost use Rattle.term_core.specs.MapPairs.{HasTwice, IsMapOf, IsMapFault};
 
-    /// The map of these pairs, which may come in any order. More than `MAX_MAP` are refused, a map deeper than
-    /// `MAX_DEPTH`, and a key that stands twice.
+    /// Makes the map of these pairs, in any order. Fails if it would be deeper than `MAX_DEPTH`, if there are more than
+    /// `MAX_MAP` pairs, if a key occurs twice, or if an allocation fails. On failure, hands the pairs back in their
+    /// order.
     pub fn map(
         alloc: A,
         pairs: Vec<(Term<A>, Term<A>), A>,

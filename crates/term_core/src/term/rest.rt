@@ -1,4 +1,4 @@
-//! What is left of lists, with the elements shared.
+//! The rest of a list after its first elements, which shares the elements with the list.
 ghost use Rattle.std.specs.Prelude.{◌≡◌, ◌<◌, ◌≤◌, length, drop, false, IfOk, IfErr, MatchOption, Some, IsTrue};
 ghost use Rattle.term_core.specs.Datum.{cells as cells_of, items_of};
 ghost use Rattle.term_core.specs.Limits.{IsTerm, depth as depth_of, items_depth};
@@ -6,15 +6,16 @@ ghost use Rattle.term_core.specs.ListParts.{HandsBack};
 ghost use Rattle.term_core.specs.Parts.{rest_of, IsShared};
 ghost use Rattle.term_core.specs.Term.{tail_of, IsRest};
 
-use super::{Cells, ListParts, Shape, Term, extended, levels_of_tail};
+use super::{Cells, ListParts, Shape, Term, extended, few_of, levels_of_tail};
 use crate::fault::{Fault, Refused};
 use std::alloc::{AllocError, Allocator};
 use std::sync::Arc;
 
-/// How many elements a list has that is copied rather than shared: so many need no more memory than their row.
+/// A rest with at most this many elements is copied instead of shared: the copy is a short list, which needs one
+/// allocation.
 const FEW: usize = 4;
 
-/// The elements behind so many of them.
+/// Returns the elements after the first `count`.
 #[inline(always)]
 pub(super) fn behind<A: Allocator>(elements: &[Term<A>], count: usize) -> &[Term<A>]
     requires { count ≤ length elements.now }
@@ -23,7 +24,7 @@ pub(super) fn behind<A: Allocator>(elements: &[Term<A>], count: usize) -> &[Term
     &elements[count..]
 }
 
-/// The list of some elements and then those that are left of another list, within its limits.
+/// Prepends elements to a rest of a list, by copying the rest's elements. The new list is within the limits.
 pub(super) fn prepended_to_rest<A: Allocator>(
     alloc: A,
     depth: u8,
@@ -67,7 +68,7 @@ pub(super) fn prepended_to_rest<A: Allocator>(
     }
 }
 
-/// Whether one of these terms is so deep.
+/// Returns whether at least one of these terms has at least this depth.
 fn has_as_deep<A: Allocator>(elements: &[Term<A>], depth: u8) -> bool
     requires { 0 < depth }
     ensures some { IsTrue result → depth ≤ items_depth (items_of elements.now) }
@@ -81,8 +82,8 @@ fn has_as_deep<A: Allocator>(elements: &[Term<A>], depth: u8) -> bool
     false
 }
 
-/// Whether a list of these elements and this tail is so deep. The elements are looked at where the tail isn't deep
-/// enough.
+/// Returns whether the list of these elements and this tail has at least this depth. The elements are looked at only if
+/// the tail is not deep enough.
 fn is_as_deep<A: Allocator>(elements: &[Term<A>], tail: &Option<Term<A>>, depth: u8) -> bool
     requires some { 0 < length elements.now }
     requires depth { 1 < depth }
@@ -96,9 +97,10 @@ fn is_as_deep<A: Allocator>(elements: &[Term<A>], tail: &Option<Term<A>>, depth:
     has_as_deep(elements, levels)
 }
 
-/// What is left of a list, which may be a rest itself, behind so many of its elements, where more than a few are left and
-/// the rest is as deep as the list: a rest keeps the elements in front of it, and no term is less deep than what it keeps.
-fn shared_behind<A: Allocator>(
+/// Returns the rest of a list, which may be a rest itself, after its first `count` elements, sharing the elements.
+/// Returns `None` unless more than `FEW` elements remain and the rest is as deep as the list. Depth matters because a
+/// rest keeps the elements before it, and no term may be less deep than what it keeps.
+fn shared_rest_of<A: Allocator>(
     depth: u8,
     first: u32,
     count: usize,
@@ -133,22 +135,21 @@ impl<A: Allocator> Term<A> {
     ghost use Rattle.std.specs.Prelude.{◌≡◌, IfOk, MatchOption};
     ghost use Rattle.term_core.specs.Parts.{rest_of, IsShared};
 
-    /// What is left of a list behind so many of its elements, which shares them with the list and takes no memory. None of
-    /// what is no list, and where the rest has but a few elements or is less deep than the list. It is refused where
-    /// 2^63 - 1 terms share the elements already.
+    /// Returns the rest of a list after its first `count` elements. It shares the elements with the list and needs no
+    /// allocation. Returns `None` if the term is not a list, if at most four elements remain, or if the rest is less
+    /// deep than the list. Fails if 2^63 - 1 terms share the elements already.
     pub fn shared_rest(&self, count: usize) -> Result<Option<Self>, AllocError>
         ensures { IfOk result (λ found. MatchOption found (¬ IsShared count self.now)
             (λ t. t ≡ rest_of count self.now)) }
     {
         match &self.shape {
-            Shape::List(depth, cells) => shared_behind(*depth, 0, count, cells),
-            Shape::Rest(depth, first, cells) => shared_behind(*depth, *first, count, cells),
-            Shape::ShortList(_, row) => {
-                // Read for the proof, which knows so that these are few.
-                let _few = row.as_slice();
+            Shape::List(depth, cells) => shared_rest_of(*depth, 0, count, cells),
+            Shape::Rest(depth, first, cells) => shared_rest_of(*depth, *first, count, cells),
+            _ => {
+                // The proof needs this read: it shows that a short list has at most four elements.
+                let _few = few_of(&self.shape);
                 Ok(None)
             }
-            _ => Ok(None),
         }
     }
 }

@@ -1,17 +1,18 @@
-//! Whether two terms are the same.
+//! Equality of terms.
 ghost use Rattle.std.specs.Prelude.{◌≡◌, length, take, IfSome};
 ghost use Rattle.std.specs.Ordering.{int_cmp, is_eq};
 ghost use Rattle.term_core.specs.Datum.{items_of};
 ghost use Rattle.term_core.specs.Datum.Datum.{atom, tuple};
 ghost use Rattle.term_core.specs.Order.{is_same};
-ghost use Rattle.term_core.specs.Term.{datum_of, IsKept, IsShort};
+ghost use Rattle.std.specs.Str.{chars};
+ghost use Rattle.term_core.specs.Term.{datum_of, IsKept, IsShortText};
 
 use super::{SHORT, Shape, Term};
 use crate::order::{compare, compare_integers};
 use crate::view::View;
 use std::alloc::Allocator;
 
-/// Whether two integers are the same.
+/// Returns whether two integers are equal.
 #[inline(always)]
 fn same_integers(a: i64, b: i64) -> bool
     ensures { result ≡ is_eq (int_cmp a b) }
@@ -19,20 +20,20 @@ fn same_integers(a: i64, b: i64) -> bool
     compare_integers(a, b).is_eq()
 }
 
-/// Whether two short atoms are the same, each so many of three characters.
+/// Returns whether two atoms that are in their terms are equal: each is the first `count` or `of` bytes of its row.
 #[inline(always)]
-fn same_short(count: u8, characters: [char; SHORT], of: u8, others: [char; SHORT]) -> bool
-    requires left { IsShort count characters }
-    requires right { IsShort of others }
-    ensures { result ≡ is_same (atom (take count characters)) (atom (take of others)) }
+fn same_short(count: u8, bytes: [u8; SHORT], of: u8, others: [u8; SHORT]) -> bool
+    requires left { IsShortText count bytes }
+    requires right { IsShortText of others }
+    ensures { result ≡ is_same (atom (chars (take count bytes))) (atom (chars (take of others))) }
 {
     if count != of {
         return false;
     }
-    characters.as_slice() == others.as_slice()
+    bytes.as_slice() == others.as_slice()
 }
 
-/// Whether two atoms are the same of which one is short, none of other terms.
+/// Returns whether two atoms are equal, if one of them is in its term. Returns `None` for all other pairs of terms.
 #[inline(always)]
 fn same_atoms<A: Allocator>(a: &Shape<A>, b: &Shape<A>) -> Option<bool>
     requires a { IsKept a.now }
@@ -40,17 +41,19 @@ fn same_atoms<A: Allocator>(a: &Shape<A>, b: &Shape<A>) -> Option<bool>
     ensures { IfSome result (λ same. same ≡ is_same (datum_of a.now) (datum_of b.now)) }
 {
     match (a, b) {
-        (Shape::Short(count, left), Shape::Short(of, right)) => {
+        (Shape::ShortAtom(count, left), Shape::ShortAtom(of, right)) => {
             Some(same_short(*count, *left, *of, *right))
         }
-        (Shape::Short(_count, _short), Shape::Atom(_long)) => Some(false),
-        (Shape::Atom(_long), Shape::Short(_count, _short)) => Some(false),
+        (Shape::ShortAtom(_, _), Shape::MiddleAtom(_, _)) => Some(false),
+        (Shape::MiddleAtom(_, _), Shape::ShortAtom(_, _)) => Some(false),
+        (Shape::ShortAtom(_, _), Shape::Atom(_)) => Some(false),
+        (Shape::Atom(_), Shape::ShortAtom(_, _)) => Some(false),
         _ => None,
     }
 }
 
-/// Whether two terms are the same. Integers and short atoms are compared where they stand, tuples from the last
-/// element on.
+/// Returns whether two terms are equal. Two integers are compared without a call, short atoms where they are stored,
+/// and tuples from the last element to the first.
 #[inline(always)]
 #[cycle(same)]
 pub fn is_same<A: Allocator>(a: &Term<A>, b: &Term<A>) -> bool
@@ -62,7 +65,7 @@ pub fn is_same<A: Allocator>(a: &Term<A>, b: &Term<A>) -> bool
     }
 }
 
-/// Whether two terms are the same, by what they hold.
+/// Returns whether two terms are equal, by comparing their content.
 #[inline(never)]
 #[cycle(same)]
 fn is_same_within<A: Allocator>(a: &Term<A>, b: &Term<A>) -> bool
@@ -79,7 +82,7 @@ fn is_same_within<A: Allocator>(a: &Term<A>, b: &Term<A>) -> bool
     }
 }
 
-/// Whether two tuples are the same.
+/// Returns whether two tuples are equal.
 #[cycle(same)]
 fn same_tuples<A: Allocator>(a: &[Term<A>], b: &[Term<A>]) -> bool
     ensures { result ≡ is_same (tuple (items_of a.now)) (tuple (items_of b.now)) }
@@ -90,8 +93,8 @@ fn same_tuples<A: Allocator>(a: &[Term<A>], b: &[Term<A>]) -> bool
     same_items(a, b)
 }
 
-/// Whether two tuples of one size are the same. What differs most often stands at the end: tuples of a table have their
-/// keys in common.
+/// Returns whether two tuples of the same size are equal, comparing from the last element. Elements at the end differ
+/// most often, since tuples in a table that are compared tend to have the same key.
 #[cycle(same)]
 fn same_items<A: Allocator>(a: &[Term<A>], b: &[Term<A>]) -> bool
     requires { length a.now ≡ length b.now }

@@ -1,4 +1,4 @@
-//! One to four terms in a row, and the tuple and the list of them.
+//! Rows of one to four terms, and the tuples and lists made of them.
 ghost use Rattle.std.specs.Prelude.{◌≡◌, ◌<◌, ◌≤◌, ◌++◌, ◌∷◌, [], length, IfOk, IfErr};
 ghost use Rattle.term_core.specs.Datum.{cells, items_of};
 ghost use Rattle.term_core.specs.Datum.Datum.{nil, tuple};
@@ -12,8 +12,7 @@ use crate::MAX_DEPTH;
 use crate::fault::{Fault, Refused};
 use std::alloc::{Allocator, Global};
 
-/// One to four terms in a row: what the shortest tuples and lists are made of, in the least memory.
-#[cycle(term)]
+/// One to four terms in a row. The shortest tuples and lists are made of such rows, since they take the least memory.
 #[derive(Drop)]
 pub enum ShortRow<A: Allocator = Global> {
     /// One term.
@@ -27,7 +26,7 @@ pub enum ShortRow<A: Allocator = Global> {
 }
 
 impl<A: Allocator> ShortRow<A> {
-    /// The terms, from the left.
+    /// Returns the terms, from the left.
     pub fn as_slice(&self) -> &[Term<A>]
         ensures terms { result.now ≡ row_items self.now }
         ensures some { 0 < length result.now }
@@ -41,7 +40,7 @@ impl<A: Allocator> ShortRow<A> {
         }
     }
 
-    /// The row with one term more behind it, of fewer than four.
+    /// Returns the row with one more term appended. Requires that the row has fewer than four terms.
     pub fn with(self, next: Term<A>) -> Self
         requires { length (row_items self) < 4 }
         ensures { row_items result ≡ row_items self ++ next ∷ [] }
@@ -55,7 +54,7 @@ impl<A: Allocator> ShortRow<A> {
     }
 }
 
-/// The tuple of these elements, this deep.
+/// Makes the representation of the tuple of these elements, of the given depth. On failure, hands the elements back.
 fn short_shape<A: Allocator>(
     alloc: A,
     depth: u8,
@@ -98,9 +97,53 @@ fn short_shape<A: Allocator>(
     }
 }
 
+/// Makes the shape of the list of these elements, of this depth. Hands the elements back if the allocation fails.
+fn list_shape<A: Allocator>(
+    alloc: A,
+    depth: u8,
+    elements: ShortRow<A>,
+) -> Result<Shape<A>, Refused<ShortRow<A>>>
+    requires some { 0 < length (row_items elements) }
+    requires depth { depth ≡ depth_of (cells (row_items elements) nil) }
+    ensures value { IfOk result (λ s. datum_of s ≡ cells (row_items elements) nil) }
+    ensures kept { IfOk result (λ s. IsKept s) }
+    ensures refused { IfErr result (λ r. (r.value ≡ elements) × (r.fault ≡ Fault.Memory)) }
+{
+    match elements {
+        ShortRow::One(row) => match shared(alloc, row) {
+            Ok(row) => Ok(Shape::ListOfOne(depth, row)),
+            Err(refused) => Err(Refused {
+                value: ShortRow::One(refused.value),
+                fault: refused.fault,
+            }),
+        },
+        ShortRow::Two(row) => match shared(alloc, row) {
+            Ok(row) => Ok(Shape::ListOfTwo(depth, row)),
+            Err(refused) => Err(Refused {
+                value: ShortRow::Two(refused.value),
+                fault: refused.fault,
+            }),
+        },
+        ShortRow::Three(row) => match shared(alloc, row) {
+            Ok(row) => Ok(Shape::ListOfThree(depth, row)),
+            Err(refused) => Err(Refused {
+                value: ShortRow::Three(refused.value),
+                fault: refused.fault,
+            }),
+        },
+        ShortRow::Four(row) => match shared(alloc, row) {
+            Ok(row) => Ok(Shape::ListOfFour(depth, row)),
+            Err(refused) => Err(Refused {
+                value: ShortRow::Four(refused.value),
+                fault: refused.fault,
+            }),
+        },
+    }
+}
+
 impl<A: Allocator> Term<A> {
-    /// The tuple of one to four elements, in the least memory: it asks for memory once. A tuple deeper than `MAX_DEPTH`
-    /// is refused.
+    /// Makes the tuple of one to four elements with a single allocation of the smallest size. Fails if the tuple would
+    /// be deeper than `MAX_DEPTH`, or if the allocation fails. On failure, hands the elements back.
     pub fn short_tuple(alloc: A, elements: ShortRow<A>) -> Result<Self, Refused<ShortRow<A>>>
         ensures ok { IfOk result (λ t. t ≡ tuple (items_of (row_items elements))) }
         ensures refused { IfErr result (λ r. (r.value ≡ elements)
@@ -117,8 +160,8 @@ impl<A: Allocator> Term<A> {
         Ok(Term { shape })
     }
 
-    /// The list of one to four elements, in the least memory: it asks for memory once. A list deeper than `MAX_DEPTH` is
-    /// refused.
+    /// Makes the list of one to four elements with a single allocation of the smallest size. Fails if the list would be
+    /// deeper than `MAX_DEPTH`, or if the allocation fails. On failure, hands the elements back.
     pub fn short_list(alloc: A, elements: ShortRow<A>) -> Result<Self, Refused<ShortRow<A>>>
         ensures ok { IfOk result (λ t. t ≡ cells (row_items elements) nil) }
         ensures refused { IfErr result (λ r. (r.value ≡ elements)
@@ -126,10 +169,8 @@ impl<A: Allocator> Term<A> {
     {
         match list_depth(elements.as_slice(), &None) {
             Ok(depth) => {
-                let row = shared(alloc, elements)?;
-                Ok(Term {
-                    shape: Shape::ShortList(depth, row),
-                })
+                let shape = list_shape(alloc, depth, elements)?;
+                Ok(Term { shape })
             }
             Err(fault) => Err(Refused {
                 value: elements,

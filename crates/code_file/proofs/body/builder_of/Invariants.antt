@@ -1,4 +1,4 @@
--- what is built with what is left behind it
+-- the constants that were added, followed by the remaining ones
 use Rattle.std.proofs.Common.{◌≡◌, ◌++◌, reverse, length}
 use Rattle.mcode.specs.Building.{empty_program}
 use Rattle.code_file.specs.Parts.{with_constants}

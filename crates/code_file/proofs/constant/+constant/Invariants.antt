@@ -1,4 +1,4 @@
--- The recursion goes down by the levels that are left.
+-- The recursion decreases the number of levels that are left.
 use Rattle.std.proofs.Common.{◌+◌, ◌*◌, ◌-◌}
 use Rattle.term_core.specs.ShortRow.{row_items}
 use Rattle.code_writer.specs.Formats.{constant_format, pair_format, RisingPairs}

@@ -1,4 +1,4 @@
--- The recursion goes down by the depth of the terms.
+-- The recursion decreases the depth of the terms.
 use Rattle.std.proofs.Common.{◌+◌, ◌*◌, max}
 use Rattle.std.specs.Option.{option_copied}
 use Rattle.term_core.specs.Datum.{items_of, entries_of}

@@ -1,4 +1,4 @@
--- The constants so far and those that are left are all.
+-- The constants added so far and those that are left are all constants.
 use Rattle.std.specs.Prelude.{◌≡◌, [], length}
 use Rattle.std.proofs.Common.{reverse}
 use Rattle.compiler_assembly.specs.Assembling.{with_blocks}

@@ -1,4 +1,4 @@
--- each from here on has its number
+-- each term from this position on has its number
 use Rattle.std.proofs.Common.{◌≡◌, drop}
 use Rattle.std.specs.BTreeMap.{get}
 use Rattle.term_core.specs.Datum.{Datum}

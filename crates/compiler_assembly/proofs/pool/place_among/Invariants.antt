@@ -1,4 +1,4 @@
--- what is left has the number that is asked for
+-- the number of the term among what is left is its number among all
 use Rattle.std.proofs.Common.{◌≡◌, drop}
 use Rattle.compiler_assembly.specs.Pool.{place_from}
 use Rattle.compiler_assembly.proofs.pool.place_among.Given as goal

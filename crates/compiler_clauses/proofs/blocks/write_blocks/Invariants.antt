@@ -1,4 +1,4 @@
--- the blocks so far and those of the clauses that are left are all
+-- the blocks so far and those of the clauses that are left are all blocks
 use Rattle.std.proofs.Common.{◌≡◌, ◌++◌, drop}
 use Rattle.mspec_syntax.specs.Specification.{specification_variables}
 use Rattle.compiler_clauses.specs.Clauses.{blocks_of}

@@ -1,4 +1,4 @@
--- what was put are the lines of the conditions from the place on
+-- what was put are the lines of the conditions from this position on
 use Rattle.std.proofs.Common.{◌≡◌, ◌++◌, drop}
 use Rattle.compiler_clauses.specs.Clauses.{condition_lines}
 use Rattle.compiler_clauses.proofs.parts.write_conditions.Given as goal

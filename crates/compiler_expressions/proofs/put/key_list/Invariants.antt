@@ -1,4 +1,4 @@
--- the keys so far and those that are left are all
+-- the keys so far and those that are left are all keys
 use Rattle.std.proofs.Common.{◌≡◌, ◌++◌, drop}
 use Rattle.mspec_syntax.specs.Expression.{assignments_of, assignment_keys}
 use Rattle.compiler_expressions.proofs.put.key_list.Given as goal

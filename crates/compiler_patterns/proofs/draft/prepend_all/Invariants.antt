@@ -1,4 +1,4 @@
--- the instructions that are left stand before the lines so far
+-- the instructions that are left come before the lines so far
 use Rattle.std.proofs.Common.{◌≡◌, ◌++◌, map, length}
 use Rattle.compiler_assembly.specs.Line.{plain}
 use Rattle.compiler_patterns.proofs.draft.prepend_all.Given as goal

@@ -1,4 +1,4 @@
--- by size, a list behind its elements and its tail; the terms so far and those that are left are all
+-- by size, a list after its elements and its tail; the terms so far and those that are left are all
 use Rattle.std.proofs.Common.{◌≡◌, ◌+◌, ◌*◌, ◌++◌, Some, map, drop}
 use Rattle.mspec_syntax.specs.Pattern.{own_term, pattern_size, patterns_size, patterns_of}
 use Rattle.mspec_syntax.specs.PatternView.{tail_pattern}

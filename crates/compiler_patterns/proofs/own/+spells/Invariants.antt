@@ -1,4 +1,4 @@
--- by size, a row of patterns behind a pattern of its size; what is left decides
+-- by size, a list of patterns after a pattern of its size; what is left decides
 use Rattle.std.proofs.Common.{◌≡◌, ◌+◌, ◌*◌, drop}
 use Rattle.mspec_syntax.specs.Pattern.{pattern_size, patterns_size, patterns_of}
 use Rattle.mspec_syntax.specs.PatternView.{tail_pattern}

@@ -1,4 +1,4 @@
--- what is behind spells a term
+-- what comes after this element spells a term
 use Rattle.std.proofs.Common.{◌≡◌, true, drop}
 use Rattle.mspec_syntax.specs.Pattern.{cells_of}
 use Rattle.mspec_syntax.specs.PatternView.{tail_pattern}

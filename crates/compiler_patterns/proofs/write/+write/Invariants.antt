@@ -1,4 +1,4 @@
--- by size, a list behind its elements and its tail; what writes the lines that are left writes all
+-- by size, a list after its elements and its tail; writing the lines that are left completes the lines
 use Rattle.std.proofs.Common.{suc, ◌+◌, ◌*◌, drop}
 use Rattle.mspec_syntax.specs.Pattern.{pattern_size, patterns_size, fields_size, patterns_of, fields_of, cells_of, pattern_variables, patterns_variables, fields_variables}
 use Rattle.mspec_syntax.specs.PatternView.{tail_pattern}

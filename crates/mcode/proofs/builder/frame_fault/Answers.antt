@@ -2,7 +2,7 @@ use Rattle.std.proofs.Common.{arith, inl, inr, ap, ◌⊎◌, ◌≡◌, ◌≤�
 use Rattle.mcode.proofs.RiseLemmas.{frame_count}
 use Rattle.mcode.proofs.builder.frame_fault.Goals as goal
 
--- neither count passes its limit
+-- neither count exceeds its limit
 few : (m n l p q : ℕ) → m ≡ n → n < l → q ≤ p → (l ≤ m) ⊎ (p < q) → ⊥
 few m n l p q same short fits many = elim many [ inl h ↦ absurd (omega (arith, same)) | inr h ↦ absurd (omega arith) ]
 

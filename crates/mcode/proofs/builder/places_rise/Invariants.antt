@@ -1,4 +1,4 @@
--- The places so far rise.
+-- The places so far are in ascending order.
 use Rattle.std.specs.Prelude.{◌<◌}
 use Rattle.std.specs.List.{AllAdjacentBelow}
 use Rattle.mcode.specs.Program.{place_number}

@@ -1,4 +1,4 @@
--- The slots so far rise.
+-- The slots so far are in ascending order.
 use Rattle.std.specs.Prelude.{◌<◌}
 use Rattle.std.specs.List.{AllAdjacentBelow}
 use Rattle.mcode.proofs.builder.slots_rise.Given as goal

@@ -1,4 +1,4 @@
--- by size, a row of patterns behind a pattern of its size; what is bound so far
+-- size decreases, with a row of patterns after a pattern of its size; what is bound so far
 use Rattle.std.proofs.Common.{◌+◌, ◌*◌, drop}
 use Rattle.term_operand.specs.Operand.{operand_datum}
 use Rattle.mspec_syntax.specs.Pattern.{pattern_size, patterns_size, fields_size, patterns_of, fields_of}

@@ -1,4 +1,4 @@
--- not too many slots, all free
+-- at most as many slots as needed, all free
 use Rattle.std.proofs.Common.{◌-◌, ◌≤◌, length}
 use Rattle.mspec_match.specs.Slots.{seen, AreFree}
 use Rattle.mspec_match.proofs.head.free_slots.Given as goal

@@ -1,4 +1,4 @@
--- the conditions that are left decide
+-- the remaining conditions decide
 use Rattle.mspec_meaning.proofs.HoldLemmas.{HoldFront}
 use Rattle.mspec_meaning.proofs.clauses.all_hold.Given as goal
 

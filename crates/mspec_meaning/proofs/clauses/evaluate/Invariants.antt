@@ -1,4 +1,4 @@
--- what is left decides
+-- the remaining clauses decide
 use Rattle.std.proofs.Common.{Option, drop}
 use Rattle.term_core.specs.Datum.{Datum}
 use Rattle.mspec_meaning.specs.Meaning.{Means}

@@ -1,4 +1,4 @@
--- the values so far and those that are left make the whole
+-- the values so far and the remaining ones make up the whole
 use Rattle.std.proofs.Common.{◌≡◌, ◌++◌, drop}
 use Rattle.mspec_match.specs.Slots.{seen, known}
 use Rattle.mspec_meaning.proofs.environment.copies.Given as goal

@@ -1,5 +1,5 @@
--- by size, a row of expressions in front of an expression of its size; what was looked at and what is left make the
--- whole
+-- size decreases, with a row of expressions before an expression of its size; what was evaluated and what remains make
+-- up the whole
 use Rattle.std.proofs.Common.{◌+◌, ◌-◌, ◌*◌, map}
 use Rattle.mspec_syntax.specs.Expression.{expression_size, expressions_size, assignments_size, expressions_of, assignments_of}
 use Rattle.mspec_syntax.specs.ExpressionView.{tail_expression}

@@ -2,6 +2,7 @@ use Rattle.std.proofs.Common.{length, sym, ◌∙◌, ap, arith}
 use Rattle.term_core.specs.Limits.{depth as depth_of}
 use Rattle.term_core.specs.Term.{tail_of}
 use Rattle.std.specs.Option.{option_copied}
+use Rattle.std.specs.Str.{chars}
 use Rattle.std.proofs.lemmas.Result.{err_from_is_err_and}
 use Rattle.term_core.proofs.DepthLemmas.{items_depth-at, entries_depth-at, elements-fall, tail-falls}
 use Rattle.mspec_syntax.proofs.ExpressionLemmas.{PartsFront-more, PartsFront-all, PartsFront-refuses, AssignmentsFront-more, AssignmentsFront-all, AssignmentsFront-refuses, AreParts-some, proper-IsExpression, improper-IsExpression, elements-Refuses, tail-Refuses, tail-no_list, quotes-one, first-depth, call-read, call-refused, tuple-read, tuple-refused, list-led, other-led, keys-rising, alone-read, alone-refused, crowded-refused}
@@ -129,7 +130,7 @@ read_parts-returns-clause-ok g t c =
 pub read_tuple-read_call-requires : goal.read_tuple-read_call-requires
 read_tuple-read_call-requires g t c κs within =
     let depth = first-depth c.args.elements.now c.in-Some.first.now c.in-Some.rest.now c.in-Some.ensures.cases.0 in
-    (omega (arith, depth.1, c.decreases), (within, λ e. quotes-one c.in-Atom.characters.now (length c.in-Some.rest.now) (sym c.new-callee.ensures ∙ e)))
+    (omega (arith, depth.1, c.decreases), (within, λ e. quotes-one (chars c.in-Atom.name.now) (length c.in-Some.rest.now) (sym c.new-callee.ensures ∙ e)))
 
 pub read_tuple-read_construction-requires : goal.read_tuple-read_construction-requires
 read_tuple-read_construction-requires g t c κs within =
@@ -138,11 +139,11 @@ read_tuple-read_construction-requires g t c κs within =
 
 pub read_tuple-returns-in-Atom-clause-ok : goal.read_tuple-returns-in-Atom-clause-ok
 read_tuple-returns-in-Atom-clause-ok g t c =
-    call-read c.args.variables.now c.args.elements.now c.in-Some.first.now c.in-Some.rest.now c.in-Atom.characters.now c.new-callee.result c.read_call.result c.in-Some.ensures.cases.0 c.in-Atom.ensures.value c.new-callee.ensures c.read_call.ensures.ok
+    call-read c.args.variables.now c.args.elements.now c.in-Some.first.now c.in-Some.rest.now (chars c.in-Atom.name.now) c.new-callee.result c.read_call.result c.in-Some.ensures.cases.0 c.in-Atom.ensures.value c.new-callee.ensures c.read_call.ensures.ok
 
 pub read_tuple-returns-in-Atom-clause-refused : goal.read_tuple-returns-in-Atom-clause-refused
 read_tuple-returns-in-Atom-clause-refused g t c =
-    call-refused c.args.clause c.args.variables.now c.args.elements.now c.in-Some.first.now c.in-Some.rest.now c.in-Atom.characters.now c.new-callee.result c.read_call.result c.in-Some.ensures.cases.0 c.in-Atom.ensures.value c.new-callee.ensures c.read_call.ensures.refused
+    call-refused c.args.clause c.args.variables.now c.args.elements.now c.in-Some.first.now c.in-Some.rest.now (chars c.in-Atom.name.now) c.new-callee.result c.read_call.result c.in-Some.ensures.cases.0 c.in-Atom.ensures.value c.new-callee.ensures c.read_call.ensures.refused
 
 pub read_tuple-returns-in-Tuple-clause-ok : goal.read_tuple-returns-in-Tuple-clause-ok
 read_tuple-returns-in-Tuple-clause-ok g t c =

@@ -1,5 +1,5 @@
--- by depth, a row of terms behind a term of its depth, a call behind its arguments and a tuple behind its call; what is
--- read so far
+-- depth decreases, with a row of terms after a term of its depth, a call after its arguments and a tuple after its
+-- call; what is read so far
 use Rattle.std.proofs.Common.{◌+◌, ◌*◌}
 use Rattle.term_core.specs.Datum.{items_of, entries_of}
 use Rattle.term_core.specs.Limits.{depth, items_depth, entries_depth}

@@ -1,4 +1,4 @@
--- by depth, a row of terms behind a term of its depth
+-- depth decreases, with a row of terms after a term of its depth
 use Rattle.std.proofs.Common.{◌≡◌, ◌+◌, ◌*◌, drop}
 use Rattle.term_core.specs.Datum.{items_of, entries_of}
 use Rattle.term_core.specs.Limits.{depth, items_depth, entries_depth}
@@ -15,7 +15,7 @@ decreases-any_mentions g l = 2 * items_depth (items_of l.terms.now) + 1
 abbrev pub decreases-any_pair_mentions : goal.decreases-any_pair_mentions
 decreases-any_pair_mentions g l = 2 * entries_depth (entries_of l.pairs.now) + 1
 
--- what is left decides
+-- what remains decides
 abbrev pub invariant-any_mentions-loop-term : goal.invariant-any_mentions-loop-term
 invariant-any_mentions-loop-term g l =
     items_mention (is_sought l.sought) (items_of (drop l.term-index l.terms)) ≡ items_mention (is_sought l.sought) (items_of l.terms)

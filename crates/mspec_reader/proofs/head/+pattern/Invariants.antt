@@ -1,4 +1,4 @@
--- by depth, a row of terms behind a term of its depth; what is read so far
+-- depth decreases, with a row of terms after a term of its depth; what is read so far
 use Rattle.std.proofs.Common.{◌+◌, ◌*◌}
 use Rattle.term_core.specs.Datum.{items_of, entries_of}
 use Rattle.term_core.specs.Limits.{depth, items_depth, entries_depth}

@@ -3,9 +3,6 @@ use Rattle.std.proofs.lemmas.Result.{err_from_is_err_and}
 use Rattle.mspec_reader.proofs.ReadingLemmas.{conditions-refused, bodies-refused}
 use Rattle.mspec_reader.proofs.read.read_clause.Goals as goal
 
-pub same-head : goal.same-head
-same-head g c = refl
-
 pub same-variables : goal.same-variables
 same-variables g c = refl
 

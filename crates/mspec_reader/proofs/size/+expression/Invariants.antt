@@ -1,4 +1,4 @@
--- by size, a row of expressions behind an expression of its size; the room that is left and the nodes that are left
+-- size decreases, with a row of expressions after an expression of its size; the remaining room and the remaining nodes
 use Rattle.std.proofs.Common.{◌≡◌, ◌+◌, ◌*◌, drop}
 use Rattle.mspec_syntax.specs.Expression.{expression_size, expressions_size, assignments_size, expressions_of, assignments_of, expressions_nodes, assignments_nodes}
 use Rattle.mspec_reader.proofs.size.+expression.Given as goal

@@ -1,4 +1,4 @@
--- by size, a row of patterns behind a pattern of its size; the room that is left and the nodes that are left
+-- size decreases, with a row of patterns after a pattern of its size; the remaining room and the remaining nodes
 use Rattle.std.proofs.Common.{◌≡◌, ◌+◌, ◌*◌, drop}
 use Rattle.mspec_syntax.specs.Pattern.{pattern_size, patterns_size, fields_size, patterns_of, fields_of, patterns_nodes, fields_nodes}
 use Rattle.mspec_reader.proofs.size.+size.Given as goal

@@ -1,4 +1,4 @@
--- the room that is left and the nodes that are left
+-- the remaining room and the remaining nodes
 use Rattle.std.proofs.Common.{◌≡◌, ◌+◌, drop}
 use Rattle.mspec_syntax.specs.Specification.{specification_nodes}
 use Rattle.mspec_reader.proofs.size.after_clauses.Given as goal

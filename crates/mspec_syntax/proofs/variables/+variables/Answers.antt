@@ -1,3 +1,4 @@
+use Rattle.std.proofs.lemmas.Grind.{common_steps, elements}
 use Rattle.std.proofs.Common.{◌++◌, ap, sym, ◌∙◌, arith}
 use Rattle.std.proofs.lemmas.List.{append-nil}
 use Rattle.std.proofs.lemmas.Result.{on_ok_weaker}
@@ -44,3 +45,21 @@ collect_all-collect-requires g t c κs within =
 pub collect_fields-collect-requires : goal.collect_fields-collect-requires
 collect_fields-collect-requires g t c κs within =
     (omega (arith, fields_size-at _ _ _ c.loop-pattern-test.true c.loop-pattern-item.is, c.decreases), within)
+
+pub collect-returns-in_err-push-in-Variable : goal.collect-returns-in_err-push-in-Variable
+collect-returns-in_err-push-in-Variable g t c = grind (arith, common_steps)
+
+pub collect_all-returns-in_err-collect : goal.collect_all-returns-in_err-collect
+collect_all-returns-in_err-collect g t c = grind (arith, elements)
+
+pub collect_all-loop-pattern-preserved : goal.collect_all-loop-pattern-preserved
+collect_all-loop-pattern-preserved g t c = grind (arith, common_steps)
+
+pub collect_all-returns : goal.collect_all-returns
+collect_all-returns g t c = grind (arith, common_steps)
+
+pub collect_fields-loop-pattern-preserved : goal.collect_fields-loop-pattern-preserved
+collect_fields-loop-pattern-preserved g t c = grind (arith, common_steps)
+
+pub collect_fields-returns : goal.collect_fields-returns
+collect_fields-returns g t c = grind (arith, common_steps)

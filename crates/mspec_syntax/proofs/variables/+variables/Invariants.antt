@@ -1,4 +1,5 @@
--- by size, a row of patterns behind a pattern of its size; what is collected so far and what is left make the whole
+-- size decreases, with a row of patterns after a pattern of its size; what is collected so far and what remains make up
+-- the whole
 use Rattle.std.proofs.Common.{◌≡◌, ◌+◌, ◌*◌, ◌++◌, drop}
 use Rattle.mspec_syntax.specs.Pattern.{pattern_size, patterns_size, fields_size, patterns_of, fields_of, patterns_variables, fields_variables}
 use Rattle.mspec_syntax.proofs.variables.+variables.Given as goal

@@ -1,4 +1,4 @@
--- the number so far, with the digits that are left, makes the whole
+-- the number so far, continued by the remaining digits, is the whole number
 use Rattle.std.proofs.Common.{◌≡◌, drop, true}
 use Rattle.std.specs.List.{list_all}
 use Rattle.std.specs.Char.{is_ascii_digit}

@@ -31,7 +31,7 @@ loop-number-init g c =
     let begins = starts_named w ks (named_plan h.options c.args.part (plan_of q h.options) c.args.keys.now c.requires.named) ∙ ap (λ n. at_key n (length ks)) (sym (none_yet p c.args.keys.now)) in
     (c.requires.ready, refl, c.requires.purpose, gains_nothing h w (start_of w) (at_key (count_first p 0 c.args.keys.now) (length ks)) c.args.gained.now (g.T.Turns.sees c.args.turns.now) begins)
 
--- whether a key stands in the part, by its number
+-- whether a key is in the part, given the part's number
 stands : (k : Datum) (options : Options) (o : Options) (part found : ℕ) → o ≡ options → found ≡ key_hash k % o.parts → found ≡ part → part_of (settings_of options) k ≡ part
 stands k options o part found same is here = sym (ap (λ (x : Options). key_hash k % x.parts) same) ∙ sym is ∙ here
 
@@ -41,7 +41,7 @@ elsewhere k options o part found same is other =
     (λ here. absurd (other (is ∙ ap (λ (x : Options). key_hash k % x.parts) same ∙ eqb-true (part_of (settings_of options) k) part here)))
     (λ away. away)
 
--- the loop's key, which stands in the part: how many of its keys are done behind it, which of them it is, and its part
+-- the loop's key, if it is in the part: how many of the part's keys are done after it, which of them it is, and its part
 record IsTaken (options : Options) (part n : ℕ) (keys : List Datum) (key : Datum) : Type 0 where
   done : count_first (stands_in options part) (n + 1) keys ≡ count_first (stands_in options part) n keys + 1
   is : get_or (filter (stands_in options part) keys) (count_first (stands_in options part) n keys) nil ≡ key

@@ -82,8 +82,5 @@ returns-in_err-enlist-clause-refused g c =
       noted = s.noted;
     })
 
-pub same-key : goal.same-key
-same-key g c = refl
-
 pub taken-requires : goal.taken-requires
 taken-requires g c = c.requires.object

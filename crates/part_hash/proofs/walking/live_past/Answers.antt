@@ -24,7 +24,7 @@ returns g c = λ rows kind there s.
     let next = behind c.args.base c.args.key.now c.in-Some.at made.0 (c.args.key.now, objects_at rows c.args.key.now) s kind (mod-lt (key_hash c.args.key.now / c.args.settings.parts) c.requires.base) made.1 refl in
     let from : c.made_to-from.result ≡ made.0 + 1 = c.made_to-from.ensures ((c.args.key.now, objects_at rows c.args.key.now), made.0) made.1 next.0 in
     let same : c.class_of-class.result ≡ class_at c.args.settings c.args.base c.args.key.now = c.class_of-class.ensures.value ∙ ap (λ hash. (hash / c.args.settings.parts) % c.args.base) c.key_hash.ensures in
-    c.live_behind.ensures rows s
+    c.live_after.ensures rows s
     ∙ ap (λ n. first_live (in_class c.args.settings c.args.base c.class_of-class.result (made_from n s.list) ++ rows_from c.args.settings c.args.base (c.class_of-class.result + 1) rows)) from
     ∙ ap (λ class. first_live (in_class c.args.settings c.args.base class (made_from (made.0 + 1) s.list) ++ rows_from c.args.settings c.args.base (class + 1) rows)) same
     ∙ ap first_live (sym next.1)

@@ -1,4 +1,4 @@
--- The value is that of the key among the pairs that are left.
+-- The value of the key is its value among the remaining pairs.
 use Rattle.std.specs.Prelude.{◌≡◌, length}
 use Rattle.term_core.specs.Datum.{entries_of}
 use Rattle.term_operand.specs.Operand.{operand_datum}

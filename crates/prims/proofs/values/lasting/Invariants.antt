@@ -1,4 +1,4 @@
--- The operands so far and the values that are left make the whole, and there is room while there are few.
+-- The operands so far and the remaining values make up the whole, and there is room while there are few.
 use Rattle.std.proofs.Common.{◌≡◌, ◌++◌, ◌≤◌, length, map, drop}
 use Rattle.term_operand.specs.Operand.{operand_datum}
 use Rattle.term_operand.specs.Value.{value_datum}

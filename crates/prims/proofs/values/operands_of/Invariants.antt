@@ -1,4 +1,4 @@
--- the operands so far and the values that are left make the whole
+-- the operands so far and the remaining values make up the whole
 use Rattle.std.proofs.Common.{◌≡◌, ◌++◌, map, drop}
 use Rattle.term_operand.specs.Operand.{operand_datum}
 use Rattle.term_operand.specs.Value.{value_datum}

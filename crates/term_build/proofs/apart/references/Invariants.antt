@@ -1,4 +1,4 @@
--- The terms so far and those that are left make up the whole.
+-- The terms so far and the remaining ones make up the whole.
 use Rattle.std.proofs.Common.{◌≡◌, ◌++◌, drop}
 use Rattle.term_core.proofs.MapLemmas.{seen}
 use Rattle.term_build.proofs.apart.references.Given as goal

@@ -1,4 +1,4 @@
--- The copies so far and what is left make up the whole.
+-- The copies so far and the remaining terms make up the whole.
 use Rattle.std.proofs.Common.{◌≡◌, ◌++◌, drop}
 use Rattle.term_build.proofs.copies.copy_all.Given as goal
 

@@ -1,4 +1,4 @@
--- by depth; what is left to feed leads to the whole
+-- depth decreases; feeding what remains completes the whole
 use Rattle.std.proofs.Common.{◌+◌, ◌*◌, max, drop}
 use Rattle.std.specs.Option.{option_copied}
 use Rattle.term_core.specs.Datum.{items_of, entries_of}

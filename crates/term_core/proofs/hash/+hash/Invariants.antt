@@ -1,4 +1,4 @@
--- What is mixed in so far, and then what is left, gives the whole.
+-- Mixing what remains into the hash so far gives the whole.
 use Rattle.std.proofs.Common.{◌≡◌, ◌+◌, ◌*◌, max, drop}
 use Rattle.std.specs.Option.{option_copied}
 use Rattle.term_core.specs.Datum.{items_of, entries_of}

@@ -35,12 +35,12 @@ compare_alike-returns-in-Integer-Integer g t c =
 pub compare_alike-returns-in-Atom-Atom : goal.compare_alike-returns-in-Atom-Atom
 unfolding datum_cmp
 compare_alike-returns-in-Atom-Atom g t c =
-    rw (← c.in-Atom-Atom.ensures.value, ← c.in-Atom-Atom.ensures'.value) c.cmp.ensures
+    rw (← c.in-Atom-Atom.ensures.value, ← c.in-Atom-Atom.ensures'.value) c.compare_texts.ensures
 
 pub compare_alike-returns-in-Binary-Binary : goal.compare_alike-returns-in-Binary-Binary
 unfolding datum_cmp
 compare_alike-returns-in-Binary-Binary g t c =
-    rw (← c.in-Binary-Binary.ensures.value, ← c.in-Binary-Binary.ensures'.value) c.cmp-in-Binary-Binary.ensures
+    rw (← c.in-Binary-Binary.ensures.value, ← c.in-Binary-Binary.ensures'.value) c.cmp.ensures
 
 pub compare_alike-returns-in_default : goal.compare_alike-returns-in_default
 compare_alike-returns-in_default g t c =

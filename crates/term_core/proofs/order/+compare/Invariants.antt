@@ -1,4 +1,4 @@
--- What is left compares as the whole does.
+-- What remains compares as the whole does.
 use Rattle.std.proofs.Common.{◌≡◌, ◌+◌, ◌*◌, max, drop}
 use Rattle.std.specs.Option.{option_copied}
 use Rattle.term_core.specs.Datum.{items_of, entries_of, cells}

@@ -1,4 +1,4 @@
--- What was there, and the copies so far.
+-- The elements that were there, and the copies so far.
 use Rattle.std.proofs.Common.{◌≡◌, ◌++◌, take}
 use Rattle.term_core.proofs.term.append_copies.Given as goal
 

@@ -1,4 +1,4 @@
--- what is deepest so far and what is left make up the whole
+-- the greatest depth so far and that of the remaining terms make up the whole
 use Rattle.std.proofs.Common.{◌≡◌, max, drop}
 use Rattle.term_core.specs.Datum.{items_of}
 use Rattle.term_core.specs.Limits.{items_depth, AreSound}

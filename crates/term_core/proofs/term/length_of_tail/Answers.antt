@@ -1,17 +1,42 @@
 use Rattle.std.proofs.Common.{None, length, drop, ap, ◌∙◌, length-drop, arith}
-use Rattle.term_core.specs.ShortRow.{row_items}
 use Rattle.term_core.proofs.LimitLemmas.{list-length, cell_count-sound}
 use Rattle.term_core.proofs.term.length_of_tail.Goals as goal
 
-pub returns-in-ShortList-clause-value : goal.returns-in-ShortList-clause-value
-returns-in-ShortList-clause-value g c =
-    let kept = rw c.in-ShortList.is at c.tail.invariant.1 in
-    let seen = rw c.in-ShortList.is at c.tail.view_is in
+pub returns-in-ListOfOne-clause-value : goal.returns-in-ListOfOne-clause-value
+returns-in-ListOfOne-clause-value g c =
+    let kept = rw c.in-ListOfOne.is at c.tail.invariant.1 in
+    let seen = rw c.in-ListOfOne.is at c.tail.view_is in
     let some = c.in-Some.is in
-    let held = c.deref.ensures in
-    let terms = rw held at c.as_slice.ensures.terms in
-    let count = list-length (row_items c.in-ShortList.row.value) None kept.2 in
-    rw (some, ← seen) (ap length terms ∙ count)
+    let held = ap length c.deref.ensures in
+    let count = list-length c.in-ListOfOne.row.value None kept.2 in
+    rw (some, ← seen) (held ∙ count)
+
+pub returns-in-ListOfTwo-clause-value : goal.returns-in-ListOfTwo-clause-value
+returns-in-ListOfTwo-clause-value g c =
+    let kept = rw c.in-ListOfTwo.is at c.tail.invariant.1 in
+    let seen = rw c.in-ListOfTwo.is at c.tail.view_is in
+    let some = c.in-Some.is in
+    let held = ap length c.deref-in-ListOfTwo.ensures in
+    let count = list-length c.in-ListOfTwo.row.value None kept.2 in
+    rw (some, ← seen) (held ∙ count)
+
+pub returns-in-ListOfThree-clause-value : goal.returns-in-ListOfThree-clause-value
+returns-in-ListOfThree-clause-value g c =
+    let kept = rw c.in-ListOfThree.is at c.tail.invariant.1 in
+    let seen = rw c.in-ListOfThree.is at c.tail.view_is in
+    let some = c.in-Some.is in
+    let held = ap length c.deref-in-ListOfThree.ensures in
+    let count = list-length c.in-ListOfThree.row.value None kept.2 in
+    rw (some, ← seen) (held ∙ count)
+
+pub returns-in-ListOfFour-clause-value : goal.returns-in-ListOfFour-clause-value
+returns-in-ListOfFour-clause-value g c =
+    let kept = rw c.in-ListOfFour.is at c.tail.invariant.1 in
+    let seen = rw c.in-ListOfFour.is at c.tail.view_is in
+    let some = c.in-Some.is in
+    let held = ap length c.deref-in-ListOfFour.ensures in
+    let count = list-length c.in-ListOfFour.row.value None kept.2 in
+    rw (some, ← seen) (held ∙ count)
 
 pub returns-in-List-clause-value : goal.returns-in-List-clause-value
 returns-in-List-clause-value g c =

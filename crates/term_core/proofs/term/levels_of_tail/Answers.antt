@@ -1,18 +1,53 @@
 use Rattle.std.proofs.Common.{None, drop, arith}
-use Rattle.term_core.specs.ShortRow.{row_items}
 use Rattle.term_core.proofs.LimitLemmas.{list-levels}
 use Rattle.term_core.proofs.term.levels_of_tail.Goals as goal
 
 pub overflow_sub-result : goal.overflow_sub-result
 overflow_sub-result g c =
-    let kept = rw c.in-ShortList.is at c.tail.invariant.1 in omega (arith, list-levels c.in-ShortList.depth (row_items c.in-ShortList.field-1.value) None kept)
+    let kept = rw c.in-ListOfOne.is at c.tail.invariant.1 in omega (arith, list-levels c.in-ListOfOne.depth c.in-ListOfOne.field-1.value None kept)
 
-pub returns-in-ShortList-clause-value : goal.returns-in-ShortList-clause-value
-returns-in-ShortList-clause-value g c =
-    let kept = rw c.in-ShortList.is at c.tail.invariant.1 in
-    let seen = rw c.in-ShortList.is at c.tail.view_is in
+pub returns-in-ListOfOne-clause-value : goal.returns-in-ListOfOne-clause-value
+returns-in-ListOfOne-clause-value g c =
+    let kept = rw c.in-ListOfOne.is at c.tail.invariant.1 in
+    let seen = rw c.in-ListOfOne.is at c.tail.view_is in
     let some = c.in-Some.is in
-    let levels = list-levels c.in-ShortList.depth (row_items c.in-ShortList.field-1.value) None kept in
+    let levels = list-levels c.in-ListOfOne.depth c.in-ListOfOne.field-1.value None kept in
+    rw (some, ← seen) (omega arith)
+
+pub overflow_sub-result-in-ListOfTwo : goal.overflow_sub-result-in-ListOfTwo
+overflow_sub-result-in-ListOfTwo g c =
+    let kept = rw c.in-ListOfTwo.is at c.tail.invariant.1 in omega (arith, list-levels c.in-ListOfTwo.depth c.in-ListOfTwo.field-1.value None kept)
+
+pub returns-in-ListOfTwo-clause-value : goal.returns-in-ListOfTwo-clause-value
+returns-in-ListOfTwo-clause-value g c =
+    let kept = rw c.in-ListOfTwo.is at c.tail.invariant.1 in
+    let seen = rw c.in-ListOfTwo.is at c.tail.view_is in
+    let some = c.in-Some.is in
+    let levels = list-levels c.in-ListOfTwo.depth c.in-ListOfTwo.field-1.value None kept in
+    rw (some, ← seen) (omega arith)
+
+pub overflow_sub-result-in-ListOfThree : goal.overflow_sub-result-in-ListOfThree
+overflow_sub-result-in-ListOfThree g c =
+    let kept = rw c.in-ListOfThree.is at c.tail.invariant.1 in omega (arith, list-levels c.in-ListOfThree.depth c.in-ListOfThree.field-1.value None kept)
+
+pub returns-in-ListOfThree-clause-value : goal.returns-in-ListOfThree-clause-value
+returns-in-ListOfThree-clause-value g c =
+    let kept = rw c.in-ListOfThree.is at c.tail.invariant.1 in
+    let seen = rw c.in-ListOfThree.is at c.tail.view_is in
+    let some = c.in-Some.is in
+    let levels = list-levels c.in-ListOfThree.depth c.in-ListOfThree.field-1.value None kept in
+    rw (some, ← seen) (omega arith)
+
+pub overflow_sub-result-in-ListOfFour : goal.overflow_sub-result-in-ListOfFour
+overflow_sub-result-in-ListOfFour g c =
+    let kept = rw c.in-ListOfFour.is at c.tail.invariant.1 in omega (arith, list-levels c.in-ListOfFour.depth c.in-ListOfFour.field-1.value None kept)
+
+pub returns-in-ListOfFour-clause-value : goal.returns-in-ListOfFour-clause-value
+returns-in-ListOfFour-clause-value g c =
+    let kept = rw c.in-ListOfFour.is at c.tail.invariant.1 in
+    let seen = rw c.in-ListOfFour.is at c.tail.view_is in
+    let some = c.in-Some.is in
+    let levels = list-levels c.in-ListOfFour.depth c.in-ListOfFour.field-1.value None kept in
     rw (some, ← seen) (omega arith)
 
 pub overflow_sub-result-in-List : goal.overflow_sub-result-in-List

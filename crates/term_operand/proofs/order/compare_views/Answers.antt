@@ -1,8 +1,10 @@
 use Rattle.std.proofs.Common.{◌≡◌, ◌∙◌, sym, rules}
 use Rattle.std.specs.Prelude.{FitsSigned}
+use Rattle.std.specs.Str.{chars, IsUtf8}
 use Rattle.std.specs.Int.{w64}
 use Rattle.std.proofs.lemmas.Int.{to_z-of_z}
 use Rattle.term_core.specs.View.{shown}
+use Rattle.term_core.proofs.BytesOrder.{bytes_order}
 use Rattle.term_operand.proofs.OrderLemmas.{datum_cmp-integer, datum_cmp-atom, datum_cmp-rank, AreOther, beside_integer, beside_atom, beside_any}
 use Rattle.term_core.specs.Order.{datum_cmp}
 use Rattle.term_operand.proofs.order.compare_views.Given.{Over}
@@ -18,8 +20,10 @@ returns-in-Integer-Integer g c =
 
 pub returns-in-Atom-Atom : goal.returns-in-Atom-Atom
 returns-in-Atom-Atom g c =
-    rw (c.in-Atom-Atom.is-0, c.in-Atom-Atom.is-1, datum_cmp-atom c.in-Atom-Atom.left.now c.in-Atom-Atom.right.now)
-    c.cmp-in-Atom-Atom.ensures
+    let left : IsUtf8 c.in-Atom-Atom.left.now = search rules in
+    let right : IsUtf8 c.in-Atom-Atom.right.now = search rules in
+    rw (c.in-Atom-Atom.is-0, c.in-Atom-Atom.is-1, datum_cmp-atom (chars c.in-Atom-Atom.left.now) (chars c.in-Atom-Atom.right.now))
+    (c.cmp-in-Atom-Atom.ensures ∙ bytes_order c.in-Atom-Atom.left.now c.in-Atom-Atom.right.now left right)
 
 ranked : (g : Over) (c : goal.After-cmp-in_default g) → AreOther (shown c.args.left) (shown c.args.right) → c.cmp-in_default.result ≡ datum_cmp (shown c.args.left) (shown c.args.right)
 ranked g c other =

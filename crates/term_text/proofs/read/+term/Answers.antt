@@ -4,14 +4,15 @@ use Rattle.std.proofs.lemmas.Result.{err_from_is_err_and}
 use Rattle.std.proofs.lemmas.List.{length-append}
 use Rattle.term_text.specs.TokenReading.{after_gap}
 use Rattle.term_core.specs.declared.TheConstants.{MAX_MAP}
-use Rattle.term_text.specs.Reading.{separated, element_at, pair_at, term_at, tail_at, has_key}
+use Rattle.term_text.specs.Reading.{IsPlace, separated, element_at, pair_at, term_at, tail_at, has_key}
 use Rattle.term_text.proofs.Steps.{ends, goes_on, is_done}
 use Rattle.term_text.proofs.Sound.{term_holds, element_shrinks, pair_shrinks}
 use Rattle.term_text.proofs.Readers.{bind_fails, term_fails, tail_fails, term_is, tail_is, tail_form_is, element_fails, element_is, item_fails, item_is, has_key-lookup, pair_twice, pair_no_arrow, pair_no_value, pair_is, with_rest}
 use Rattle.term_text.proofs.Within.{list_within}
 use Rattle.term_text.proofs.Constructed.{elements_are, tuple_within, map_within, tail_within}
 use Rattle.term_core.specs.ShortRow.{row_items}
-use Rattle.term_text.proofs.Short.{element_stops, element_more, tuple_stops, tuple_unclosed, tuple_closed, list_stops, list_goes_on, list_closes, no_elements, fails_as}
+use Rattle.term_text.proofs.Keys.{put_rises}
+use Rattle.term_text.proofs.Short.{element_stops, element_more, pair_stops, pair_more, tuple_stops, tuple_unclosed, tuple_closed, list_stops, list_goes_on, list_closes, no_elements, fails_as}
 use Rattle.term_text.proofs.read.+term.Goals as goal
 
 pub elements-returns-in_err-element : goal.elements-returns-in_err-element
@@ -24,20 +25,20 @@ elements-returns-in_err-element g t c =
 pub elements-returns-then-not-goes_on : goal.elements-returns-then-not-goes_on
 elements-returns-then-not-goes_on g t c =
     let room : c.saturating_sub-room.result ≡ c.args.limit - length c.loop-elements.elements.items = omega arith in
-    let one = element_is (term_at c.args.levels) c.args.limit c.saturating_sub-room.result c.loop-elements.elements.items (chars c.loop-elements.rest.now) c.in_ok-element.element (chars c.in_ok-element.after.now) c.behind_comma-goes_on.result.0 (chars c.behind_comma-goes_on.result.1.now) room c.in_ok-element.ensures c.behind_comma-goes_on.ensures in
-    rw c.in_ok-push.ensures.items (is_done (separated (element_at (term_at c.args.levels) c.args.limit)) (element_shrinks c.args.levels (term_at c.args.levels) (term_holds c.args.levels) c.args.limit) c.loop-elements.elements.items _ (chars c.loop-elements.rest.now) (chars c.behind_comma-goes_on.result.1.now) _ (rw c.if-not-goes_on.true at one) c.loop-elements.invariant.1)
+    let one = element_is (term_at c.args.levels) c.args.limit c.saturating_sub-room.result c.loop-elements.elements.items (chars c.loop-elements.rest.now) c.in_ok-element.element (chars c.in_ok-element.after.now) c.after_comma-goes_on.result.0 (chars c.after_comma-goes_on.result.1.now) room c.in_ok-element.ensures c.after_comma-goes_on.ensures in
+    rw c.in_ok-push.ensures.items (is_done (separated (element_at (term_at c.args.levels) c.args.limit)) (element_shrinks c.args.levels (term_at c.args.levels) (term_holds c.args.levels) c.args.limit) c.loop-elements.elements.items _ (chars c.loop-elements.rest.now) (chars c.after_comma-goes_on.result.1.now) _ (rw c.if-not-goes_on.true at one) c.loop-elements.invariant.1)
 
 pub elements-loop-elements-smaller : goal.elements-loop-elements-smaller
 elements-loop-elements-smaller g t c =
     let room : c.saturating_sub-room.result ≡ c.args.limit - length c.loop-elements.elements.items = omega arith in
-    let one = element_is (term_at c.args.levels) c.args.limit c.saturating_sub-room.result c.loop-elements.elements.items (chars c.loop-elements.rest.now) c.in_ok-element.element (chars c.in_ok-element.after.now) c.behind_comma-goes_on.result.0 (chars c.behind_comma-goes_on.result.1.now) room c.in_ok-element.ensures c.behind_comma-goes_on.ensures in
+    let one = element_is (term_at c.args.levels) c.args.limit c.saturating_sub-room.result c.loop-elements.elements.items (chars c.loop-elements.rest.now) c.in_ok-element.element (chars c.in_ok-element.after.now) c.after_comma-goes_on.result.0 (chars c.after_comma-goes_on.result.1.now) room c.in_ok-element.ensures c.after_comma-goes_on.ensures in
     (element_shrinks c.args.levels (term_at c.args.levels) (term_holds c.args.levels) c.args.limit).shorter c.loop-elements.elements.items (chars c.loop-elements.rest.now) _ one c.if-not-goes_on.false
 
 pub elements-loop-elements-preserved : goal.elements-loop-elements-preserved
 elements-loop-elements-preserved g t c =
     let room : c.saturating_sub-room.result ≡ c.args.limit - length c.loop-elements.elements.items = omega arith in
-    let one = element_is (term_at c.args.levels) c.args.limit c.saturating_sub-room.result c.loop-elements.elements.items (chars c.loop-elements.rest.now) c.in_ok-element.element (chars c.in_ok-element.after.now) c.behind_comma-goes_on.result.0 (chars c.behind_comma-goes_on.result.1.now) room c.in_ok-element.ensures c.behind_comma-goes_on.ensures in
-    (search rules, rw c.in_ok-push.ensures.items (goes_on (separated (element_at (term_at c.args.levels) c.args.limit)) (element_shrinks c.args.levels (term_at c.args.levels) (term_holds c.args.levels) c.args.limit) c.loop-elements.elements.items _ (chars c.loop-elements.rest.now) (chars c.behind_comma-goes_on.result.1.now) _ (rw c.if-not-goes_on.false at one) c.loop-elements.invariant.1))
+    let one = element_is (term_at c.args.levels) c.args.limit c.saturating_sub-room.result c.loop-elements.elements.items (chars c.loop-elements.rest.now) c.in_ok-element.element (chars c.in_ok-element.after.now) c.after_comma-goes_on.result.0 (chars c.after_comma-goes_on.result.1.now) room c.in_ok-element.ensures c.after_comma-goes_on.ensures in
+    (search rules, rw c.in_ok-push.ensures.items (goes_on (separated (element_at (term_at c.args.levels) c.args.limit)) (element_shrinks c.args.levels (term_at c.args.levels) (term_holds c.args.levels) c.args.limit) c.loop-elements.elements.items _ (chars c.loop-elements.rest.now) (chars c.after_comma-goes_on.result.1.now) _ (rw c.if-not-goes_on.false at one) c.loop-elements.invariant.1))
 
 pub pair-returns-then-contains_key : goal.pair-returns-then-contains_key
 pair-returns-then-contains_key g t c =
@@ -67,25 +68,25 @@ pair-returns g t c =
     rw c.in_ok-insert.ensures.entries (pair_is (term_at c.args.levels) c.saturating_sub-room.result c.args.pairs.entries (chars c.args.text.now) c.in_ok-key.key (chars c.in_ok-key.rest.now) room c.in_ok-key.ensures (chars c.in_ok-rest.rest.now) c.in_ok-value.value (chars c.in_ok-value.rest.now) fresh
     (rw c.after_gap.ensures at c.in_ok-rest.ensures) (rw c.after_gap-2.ensures at c.in_ok-value.ensures))
 
-pub pairs-returns-in_err-more : goal.pairs-returns-in_err-more
-pairs-returns-in_err-more g t c =
+pub more_pairs-returns-in_err-more : goal.more_pairs-returns-in_err-more
+more_pairs-returns-in_err-more g t c =
     let p = err_from_is_err_and c.from_residual.result c.from_residual.ensures.1 in
     rw (p.1, p.2) (ends (separated (pair_at (term_at c.args.levels))) (pair_shrinks c.args.levels (term_at c.args.levels) (term_holds c.args.levels)) _ c.loop-more.pairs.entries (chars c.loop-more.rest.now) _ (item_fails _ (pair_at (term_at c.args.levels)) c.loop-more.pairs.entries (chars c.loop-more.rest.now) c.in_err-more.ensures) c.loop-more.invariant.1)
 
-pub pairs-returns-then-not-goes_on : goal.pairs-returns-then-not-goes_on
-pairs-returns-then-not-goes_on g t c =
-    let one = item_is (pair_at (term_at c.args.levels)) c.loop-more.pairs.entries c.in_ok-more.more.entries (chars c.loop-more.rest.now) (chars c.in_ok-more.after.now) c.behind_comma-goes_on.result.0 (chars c.behind_comma-goes_on.result.1.now) c.in_ok-more.ensures c.behind_comma-goes_on.ensures in
-    is_done (separated (pair_at (term_at c.args.levels))) (pair_shrinks c.args.levels (term_at c.args.levels) (term_holds c.args.levels)) c.loop-more.pairs.entries c.in_ok-more.more.entries (chars c.loop-more.rest.now) (chars c.behind_comma-goes_on.result.1.now) _ (rw c.if-not-goes_on.true at one) c.loop-more.invariant.1
+pub more_pairs-returns-then-not-goes_on : goal.more_pairs-returns-then-not-goes_on
+more_pairs-returns-then-not-goes_on g t c =
+    let one = item_is (pair_at (term_at c.args.levels)) c.loop-more.pairs.entries c.in_ok-more.more.entries (chars c.loop-more.rest.now) (chars c.in_ok-more.after.now) c.after_comma-goes_on.result.0 (chars c.after_comma-goes_on.result.1.now) c.in_ok-more.ensures c.after_comma-goes_on.ensures in
+    is_done (separated (pair_at (term_at c.args.levels))) (pair_shrinks c.args.levels (term_at c.args.levels) (term_holds c.args.levels)) c.loop-more.pairs.entries c.in_ok-more.more.entries (chars c.loop-more.rest.now) (chars c.after_comma-goes_on.result.1.now) _ (rw c.if-not-goes_on.true at one) c.loop-more.invariant.1
 
-pub pairs-loop-more-smaller : goal.pairs-loop-more-smaller
-pairs-loop-more-smaller g t c =
-    let one = item_is (pair_at (term_at c.args.levels)) c.loop-more.pairs.entries c.in_ok-more.more.entries (chars c.loop-more.rest.now) (chars c.in_ok-more.after.now) c.behind_comma-goes_on.result.0 (chars c.behind_comma-goes_on.result.1.now) c.in_ok-more.ensures c.behind_comma-goes_on.ensures in
+pub more_pairs-loop-more-smaller : goal.more_pairs-loop-more-smaller
+more_pairs-loop-more-smaller g t c =
+    let one = item_is (pair_at (term_at c.args.levels)) c.loop-more.pairs.entries c.in_ok-more.more.entries (chars c.loop-more.rest.now) (chars c.in_ok-more.after.now) c.after_comma-goes_on.result.0 (chars c.after_comma-goes_on.result.1.now) c.in_ok-more.ensures c.after_comma-goes_on.ensures in
     (pair_shrinks c.args.levels (term_at c.args.levels) (term_holds c.args.levels)).shorter c.loop-more.pairs.entries (chars c.loop-more.rest.now) _ one c.if-not-goes_on.false
 
-pub pairs-loop-more-preserved : goal.pairs-loop-more-preserved
-pairs-loop-more-preserved g t c =
-    let one = item_is (pair_at (term_at c.args.levels)) c.loop-more.pairs.entries c.in_ok-more.more.entries (chars c.loop-more.rest.now) (chars c.in_ok-more.after.now) c.behind_comma-goes_on.result.0 (chars c.behind_comma-goes_on.result.1.now) c.in_ok-more.ensures c.behind_comma-goes_on.ensures in
-    (search rules, goes_on (separated (pair_at (term_at c.args.levels))) (pair_shrinks c.args.levels (term_at c.args.levels) (term_holds c.args.levels)) c.loop-more.pairs.entries c.in_ok-more.more.entries (chars c.loop-more.rest.now) (chars c.behind_comma-goes_on.result.1.now) _ (rw c.if-not-goes_on.false at one) c.loop-more.invariant.1)
+pub more_pairs-loop-more-preserved : goal.more_pairs-loop-more-preserved
+more_pairs-loop-more-preserved g t c =
+    let one = item_is (pair_at (term_at c.args.levels)) c.loop-more.pairs.entries c.in_ok-more.more.entries (chars c.loop-more.rest.now) (chars c.in_ok-more.after.now) c.after_comma-goes_on.result.0 (chars c.after_comma-goes_on.result.1.now) c.in_ok-more.ensures c.after_comma-goes_on.ensures in
+    (search rules, goes_on (separated (pair_at (term_at c.args.levels))) (pair_shrinks c.args.levels (term_at c.args.levels) (term_holds c.args.levels)) c.loop-more.pairs.entries c.in_ok-more.more.entries (chars c.loop-more.rest.now) (chars c.after_comma-goes_on.result.1.now) _ (rw c.if-not-goes_on.false at one) c.loop-more.invariant.1)
 
 pub tail-returns-in_err-opening : goal.tail-returns-in_err-opening
 tail-returns-in_err-opening g t c =
@@ -138,7 +139,81 @@ pub list_end-list_of-requires : goal.list_end-list_of-requires
 list_end-list_of-requires g t c = list_within c.args.elements.items c.requires.1.1.1.1
 
 pub map-map_of-requires-2 : goal.map-map_of-requires-2
-map-map_of-requires-2 g t c = map_within c.args.levels (chars c.args.text.now) c.in_ok-pairs.pairs.entries (chars c.in_ok-pairs.rest.now) (chars c.in_ok-rest.rest.now) c.requires.1.1.1 (rw c.after_gap-text.ensures at c.in_ok-pairs.ensures) c.in_ok-rest.ensures
+map-map_of-requires-2 g t c = record {
+  within = map_within c.args.levels (chars c.args.text.now) c.in_ok-pairs.pairs.items (chars c.in_ok-pairs.rest.now) (chars c.in_ok-rest.rest.now) c.requires.1.1.1 (rw c.after_gap-text.ensures at c.in_ok-pairs.ensures.value) c.in_ok-rest.ensures;
+  rising = c.in_ok-pairs.ensures.rising;
+}
+
+pub few_pair-returns-in_default : goal.few_pair-returns-in_default
+few_pair-returns-in_default g t c =
+    let room : c.saturating_sub-room.result ≡ MAX_MAP - length c.args.few.items = omega arith in
+    let twice : has_key c.in_ok-key.key c.args.few.items ≡ true = rw c.as_slice.ensures.value at c.in_default.ensures in
+    record {
+      value = rw c.stop.ensures (pair_twice (term_at c.args.levels) c.saturating_sub-room.result c.args.few.items (chars c.args.start.now) c.in_ok-key.key (chars c.in_ok-key.rest.now) room c.in_ok-key.ensures twice);
+      rising = tt;
+    }
+
+pub few_pair-returns-in_err-rest : goal.few_pair-returns-in_err-rest
+few_pair-returns-in_err-rest g t c =
+    let room : c.saturating_sub-room.result ≡ MAX_MAP - length c.args.few.items = omega arith in
+    let place : IsPlace c.in-Some.place c.in_ok-key.key c.args.few.items = rw c.as_slice.ensures.value at c.in-Some.ensures in
+    let stops = pair_no_arrow (term_at c.args.levels) c.saturating_sub-room.result c.args.few.items (chars c.args.start.now) c.in_ok-key.key (chars c.in_ok-key.rest.now) room c.in_ok-key.ensures _ place.fresh (rw c.after_gap.ensures at c.in_err-rest.ensures) in
+    search (rules, stops)
+
+pub few_pair-returns-in_err-value : goal.few_pair-returns-in_err-value
+few_pair-returns-in_err-value g t c =
+    let room : c.saturating_sub-room.result ≡ MAX_MAP - length c.args.few.items = omega arith in
+    let place : IsPlace c.in-Some.place c.in_ok-key.key c.args.few.items = rw c.as_slice.ensures.value at c.in-Some.ensures in
+    let stops = pair_no_value (term_at c.args.levels) c.saturating_sub-room.result c.args.few.items (chars c.args.start.now) c.in_ok-key.key (chars c.in_ok-key.rest.now) room c.in_ok-key.ensures _ (chars c.in_ok-rest.rest.now) place.fresh
+    (rw c.after_gap.ensures at c.in_ok-rest.ensures) (rw c.after_gap-2.ensures at c.in_err-value.ensures) in
+    search (rules, stops)
+
+pub few_pair-returns : goal.few_pair-returns
+few_pair-returns g t c =
+    let room : c.saturating_sub-room.result ≡ MAX_MAP - length c.args.few.items = omega arith in
+    let place : IsPlace c.in-Some.place c.in_ok-key.key c.args.few.items = rw c.as_slice.ensures.value at c.in-Some.ensures in
+    record {
+      value = rw (c.in_ok-insert.ensures.items, place.put c.in_ok-value.value) (pair_is (term_at c.args.levels) c.saturating_sub-room.result c.args.few.items (chars c.args.start.now) c.in_ok-key.key (chars c.in_ok-key.rest.now) room c.in_ok-key.ensures (chars c.in_ok-rest.rest.now) c.in_ok-value.value (chars c.in_ok-value.rest.now) place.fresh
+          (rw c.after_gap.ensures at c.in_ok-rest.ensures) (rw c.after_gap-2.ensures at c.in_ok-value.ensures));
+      rising = rw (c.in_ok-insert.ensures.items, place.put c.in_ok-value.value) (put_rises c.in_ok-key.key c.in_ok-value.value c.args.few.items c.requires.1.1.1);
+    }
+
+pub few_pairs-loop-read-init : goal.few_pairs-loop-read-init
+few_pairs-loop-read-init g t c = (search rules, (rw c.new-pairs.ensures.items tt, rw c.new-pairs.ensures.items refl))
+
+pub few_pairs-returns-in_err-more : goal.few_pairs-returns-in_err-more
+few_pairs-returns-in_err-more g t c =
+    let so_far = rw c.if-not-goes_on.false at c.loop-read.invariant.1.1 in
+    let stops = pair_stops c.args.levels c.loop-read.pairs.items (chars c.loop-read.rest.now) _ so_far _ c.in_err-more.ensures.value in
+    search (rules, stops)
+
+pub few_pairs-returns-then-not-goes_on : goal.few_pairs-returns-then-not-goes_on
+few_pairs-returns-then-not-goes_on g t c = record { value = rw c.if-not-goes_on.true at c.loop-read.invariant.1.1; rising = c.loop-read.invariant.1.0 }
+
+pub few_pairs-loop-read-preserved : goal.few_pairs-loop-read-preserved
+few_pairs-loop-read-preserved g t c =
+    let so_far = rw c.if-not-goes_on.false at c.loop-read.invariant.1.1 in
+    (search rules, (c.in_ok-more.ensures.rising, pair_more c.args.levels c.loop-read.pairs.items (chars c.loop-read.rest.now) _ so_far c.in_ok-more.more.items (chars c.in_ok-more.after.now) c.after_comma.result.0 (chars c.after_comma.result.1.now) c.in_ok-more.ensures.value c.after_comma.ensures))
+
+pub few_pairs-returns : goal.few_pairs-returns
+few_pairs-returns g t c = record { value = c.loop-read.invariant.1.1; rising = c.loop-read.invariant.1.0 }
+
+pub pairs-returns-then-not-goes_on : goal.pairs-returns-then-not-goes_on
+pairs-returns-then-not-goes_on g t c = record { value = sym (rw c.if-not-goes_on.true at c.in_ok-few.ensures.value); rising = c.in_ok-few.ensures.rising }
+
+pub pairs-returns-in_err-more : goal.pairs-returns-in_err-more
+pairs-returns-in_err-more g t c =
+    let so_far = rw c.if-not-goes_on.false at c.in_ok-few.ensures.value in
+    let stops = fails_as _ _ _ so_far (rw c.in_ok-many.ensures at c.in_err-more.ensures) in
+    search (rules, stops)
+
+pub pairs-returns : goal.pairs-returns
+pairs-returns g t c =
+    let so_far = rw c.if-not-goes_on.false at c.in_ok-few.ensures.value in
+    record {
+      value = rw c.in_ok-in_order.ensures.items (sym so_far ∙ (rw c.in_ok-many.ensures at c.in_ok-more.ensures));
+      rising = c.in_ok-in_order.ensures.rising;
+    }
 
 pub tail-list_of-requires : goal.tail-list_of-requires
 tail-list_of-requires g t c =
@@ -158,13 +233,13 @@ few_elements-returns-in_err-element g t c =
 
 pub few_elements-loop-count-init : goal.few_elements-loop-count-init
 few_elements-loop-count-init g t c =
-    (search rules, (refl, element_more c.args.levels c.args.limit [] (chars c.args.text.now) _ refl c.args.limit (omega arith) c.in_ok-first.first (chars c.in_ok-first.after.now) c.behind_comma-goes_on.result.0 (chars c.behind_comma-goes_on.result.1.now) c.in_ok-first.ensures c.behind_comma-goes_on.ensures))
+    (search rules, (refl, element_more c.args.levels c.args.limit [] (chars c.args.text.now) _ refl c.args.limit (omega arith) c.in_ok-first.first (chars c.in_ok-first.after.now) c.after_comma-goes_on.result.0 (chars c.after_comma-goes_on.result.1.now) c.in_ok-first.ensures c.after_comma-goes_on.ensures))
 
 pub few_elements-loop-count-preserved : goal.few_elements-loop-count-preserved
 few_elements-loop-count-preserved g t c =
     let room : c.saturating_sub-room.result ≡ c.args.limit - length (row_items c.loop-count.few) = omega (arith, c.loop-count.invariant.1.0) in
     let so_far = rw c.if-not-goes_on.false at c.loop-count.invariant.1.1 in
-    let more = element_more c.args.levels c.args.limit (row_items c.loop-count.few) (chars c.loop-count.rest.now) _ so_far c.saturating_sub-room.result room c.in_ok-element.element (chars c.in_ok-element.after.now) c.behind_comma.result.0 (chars c.behind_comma.result.1.now) c.in_ok-element.ensures c.behind_comma.ensures in
+    let more = element_more c.args.levels c.args.limit (row_items c.loop-count.few) (chars c.loop-count.rest.now) _ so_far c.saturating_sub-room.result room c.in_ok-element.element (chars c.in_ok-element.after.now) c.after_comma.result.0 (chars c.after_comma.result.1.now) c.in_ok-element.ensures c.after_comma.ensures in
     (search rules, (rw c.with-few.ensures (omega (arith, length-append (row_items c.loop-count.few) (c.in_ok-element.element ∷ []), c.loop-count.invariant.1.0)), rw c.with-few.ensures more))
 
 pub few_elements-returns-then-not-goes_on : goal.few_elements-returns-then-not-goes_on

@@ -3,7 +3,9 @@ use Rattle.std.specs.Str.{chars}
 use denote.Text.{Utf8}
 use denote.Shadow.{shadow}
 use Rattle.term_text.specs.TokenReading.{all_steps}
-use Rattle.term_text.specs.Reading.{separated, element_at, elements_at, elements_from, pair_at, term_at}
+use Rattle.term_text.specs.Reading.{separated, element_at, elements_at, elements_from, pair_at, pairs_from, term_at}
+use Rattle.term_core.specs.Datum.{entries_of}
+use Rattle.term_core.specs.MapPairs.{AreRising}
 use Rattle.term_core.specs.ShortRow.{row_items}
 use Rattle.term_text.proofs.read.+term.Given as goal
 
@@ -38,18 +40,31 @@ decreases-elements-loop-elements g l = length (chars l.rest)
 abbrev pub decreases-pair : goal.decreases-pair
 decreases-pair g l = 10 * l.levels + 5
 
+abbrev pub decreases-few_pair : goal.decreases-few_pair
+decreases-few_pair g l = 10 * l.levels + 5
+
+abbrev pub decreases-few_pairs : goal.decreases-few_pairs
+decreases-few_pairs g l = 10 * l.levels + 6
+
+abbrev pub decreases-more_pairs : goal.decreases-more_pairs
+decreases-more_pairs g l = 10 * l.levels + 6
+
 abbrev pub decreases-pairs : goal.decreases-pairs
-decreases-pairs g l = 10 * l.levels + 6
+decreases-pairs g l = 10 * l.levels + 7
+
+abbrev pub invariant-few_pairs-loop-read : goal.invariant-few_pairs-loop-read
+invariant-few_pairs-loop-read g l =
+    shadow (Utf8 l.rest) × (AreRising (entries_of l.pairs.items) × (pairs_from (term_at l.fn.levels) l.goes_on l.pairs.items (chars l.rest) ≡ all_steps (separated (pair_at (term_at l.fn.levels))) [] (chars l.fn.text)))
 
 abbrev pub decreases-map : goal.decreases-map
 decreases-map g l = 10 * l.levels + 8
 
-abbrev pub invariant-pairs-loop-more : goal.invariant-pairs-loop-more
-invariant-pairs-loop-more g l =
-    shadow (Utf8 l.rest) × (all_steps (separated (pair_at (term_at l.levels))) l.pairs.entries (chars l.rest) ≡ all_steps (separated (pair_at (term_at l.fn.levels))) [] (chars l.fn.text))
+abbrev pub invariant-more_pairs-loop-more : goal.invariant-more_pairs-loop-more
+invariant-more_pairs-loop-more g l =
+    shadow (Utf8 l.rest) × (all_steps (separated (pair_at (term_at l.levels))) l.pairs.entries (chars l.rest) ≡ all_steps (separated (pair_at (term_at l.fn.levels))) l.fn.pairs.entries (chars l.fn.text))
 
-abbrev pub decreases-pairs-loop-more : goal.decreases-pairs-loop-more
-decreases-pairs-loop-more g l = length (chars l.rest)
+abbrev pub decreases-more_pairs-loop-more : goal.decreases-more_pairs-loop-more
+decreases-more_pairs-loop-more g l = length (chars l.rest)
 
 abbrev pub decreases-any_term : goal.decreases-any_term
 decreases-any_term g l = 10 * l.levels

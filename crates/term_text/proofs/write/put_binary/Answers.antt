@@ -1,4 +1,4 @@
-use Rattle.std.proofs.Common.{[], ◌∷◌, arith}
+use Rattle.std.proofs.Common.{[], ◌∷◌}
 use Rattle.term_text.specs.Character.{less, greater}
 use Rattle.term_text.proofs.Bytes.{binary_bytes, three}
 use Rattle.term_text.proofs.write.put_binary.Goals as goal

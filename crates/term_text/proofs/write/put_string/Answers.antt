@@ -1,4 +1,4 @@
-use Rattle.std.proofs.Common.{◌≡◌, sym, ap, ◌∙◌, ◌++◌, List, ℕ, rules}
+use Rattle.std.proofs.Common.{sym, ap, ◌∙◌, ◌++◌, List, ℕ, rules}
 use Rattle.term_core.specs.Datum.{cells}
 use Rattle.term_core.specs.Datum.Datum.{nil}
 use Rattle.term_text.specs.Canonical.{codes_of}

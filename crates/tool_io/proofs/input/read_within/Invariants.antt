@@ -1,4 +1,4 @@
--- The input so far is what the reader has lost, in as many parts as there were reads.
+-- The input so far is what the reader has lost, with at most 65,536 bytes for each read.
 use Rattle.std.proofs.Common.{◌≡◌, ◌≤◌, ◌*◌, length}
 use Rattle.std.specs.Io.KnownBytes.{Consumes}
 use Rattle.tool_io.proofs.input.read_within.Given as goal

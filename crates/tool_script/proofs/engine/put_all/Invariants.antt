@@ -1,4 +1,4 @@
--- The replies to the terms so far are put.
+-- The lines of the replies to the terms so far are appended.
 use Rattle.std.proofs.Common.{take}
 use Rattle.tool_script.specs.Engine.{ArePut}
 use Rattle.tool_script.proofs.engine.put_all.Given as goal

@@ -1,4 +1,4 @@
--- What is put and what is left is the whole.
+-- What is appended followed by what is left is the whole.
 use Rattle.std.proofs.Common.{◌≡◌, ◌++◌, drop}
 use Rattle.tool_script.specs.Replies.{behind_commas}
 use Rattle.tool_script.proofs.reply.put_more.Given as goal

@@ -1,4 +1,4 @@
--- The script is in the state behind the terms so far, and their lines are written or gathered.
+-- The script is in the state after the terms so far, and their lines are written or gathered.
 use Rattle.std.proofs.Common.{◌≤◌, take}
 use Rattle.tool_script.specs.Script.{ScriptState}
 use Rattle.tool_script.specs.Scripts.{HasState}

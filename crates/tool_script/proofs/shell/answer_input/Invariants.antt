@@ -1,4 +1,4 @@
--- The shell stands between two lines.
+-- The shell is between two lines.
 use Rattle.std.specs.Io.Buffered.{reader_remaining}
 use Rattle.tool_script.specs.declared.line.Progress.TheVariants as progress
 use Rattle.tool_script.specs.Shells.{Stands}

@@ -1,4 +1,4 @@
--- The replies to the terms so far are put, and some of them passed on.
+-- The lines of the replies to the terms so far are appended, and some of them passed on.
 use Rattle.std.proofs.Common.{take}
 use Rattle.tool_script.specs.Shells.{AreAnswered}
 use Rattle.tool_script.proofs.shell.put_replies.Given as goal

@@ -4,7 +4,7 @@ use Rattle.verifier.proofs.BodyLemmas.{typed_forward}
 use Rattle.verifier.proofs.VerifiedLemmas.{walked_shapes, found_all, over_limit}
 use Rattle.verifier.proofs.verification.find_out.Goals as goal
 
--- instructions that aren't none
+-- a list that is not empty has a positive length
 not_empty : {X : Type 0} (xs : List X) (b : Bool) → b ≡ (length xs == 0) → b ≡ false → 0 < length xs
 not_empty [] b is false_one = absurd (cc)
 not_empty (x ∷ xs) b is false_one = omega arith

@@ -1,4 +1,4 @@
--- The kinds so far are below, so that what is left decides.
+-- The kinds so far are below, so the remaining ones decide.
 use Rattle.std.specs.Prelude.{◌≡◌, reverse}
 use Rattle.verifier_types.specs.Effect.{are_below}
 use Rattle.verifier_types.proofs.PassedLemmas.{left_below}

@@ -1,4 +1,4 @@
--- The constants so far are counted.
+-- The keys of the constants so far are counted.
 use Rattle.std.specs.Prelude.{◌≡◌, map, take}
 use Rattle.verifier_types.specs.Needed.{keys_counted}
 use Rattle.verifier_types.proofs.keys.key_counts.Given as goal

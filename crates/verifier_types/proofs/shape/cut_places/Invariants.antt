@@ -1,4 +1,4 @@
--- What was taken away stood above the depth.
+-- The places that were removed are at the depth or above it.
 use Rattle.std.specs.Prelude.{◌≡◌, length}
 use Rattle.mcode.specs.Program.{Rise, place_number}
 use Rattle.verifier_types.specs.Shape.{frame_kinds}

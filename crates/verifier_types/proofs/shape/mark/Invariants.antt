@@ -1,4 +1,4 @@
--- The slots so far are marked, and those that are left lead to all.
+-- The slots so far are marked, and marking the remaining ones marks all.
 use Rattle.std.specs.Prelude.{◌≡◌, length, drop}
 use Rattle.verifier_types.specs.Shape.{marked}
 use Rattle.verifier_types.proofs.shape.mark.Given as goal

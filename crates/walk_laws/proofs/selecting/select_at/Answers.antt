@@ -6,7 +6,7 @@ use Rattle.tables.specs.Turns.{Home}
 use Rattle.walk_laws.specs.Answered.{IsAnsweredBy, IsGivenUpBy}
 use Rattle.walk_laws.proofs.selecting.select_at.Goals as goal
 
--- The session that is handed back is the one that the walk had: both stand in the same place.
+-- The session that is handed back is the one that the walk had: both are borrowed from the same variable.
 pub returns-clause-answered : goal.returns-clause-answered
 returns-clause-answered g c =
     let at = c.at-at.result in

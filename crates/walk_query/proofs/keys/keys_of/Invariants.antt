@@ -1,4 +1,4 @@
--- the keys so far, and those of the clauses that are left behind them, are those of all
+-- the keys so far, followed by those of the clauses that are left, are those of all clauses
 use Rattle.std.proofs.Common.{◌≡◌, [], drop}
 use Rattle.walk_query.specs.Named.{HasKeys, named_from}
 use Rattle.walk_query.proofs.keys.keys_of.Given as goal

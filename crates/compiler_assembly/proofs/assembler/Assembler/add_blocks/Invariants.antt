@@ -1,4 +1,4 @@
--- The blocks so far and those that are left are all.
+-- The blocks added so far and those that are left are all blocks.
 use Rattle.std.specs.Prelude.{◌≡◌, length}
 use Rattle.std.proofs.Common.{reverse}
 use Rattle.compiler_assembly.specs.Assembling.{with_blocks}

@@ -1,4 +1,4 @@
--- The lines so far and those that are left are all.
+-- The lines added so far and those that are left are all lines.
 use Rattle.std.specs.Prelude.{◌≡◌, ◌+◌, List, length}
 use Rattle.compiler_assembly.specs.Assembling.{with_lines}
 use Rattle.compiler_assembly.specs.Line.{Block}

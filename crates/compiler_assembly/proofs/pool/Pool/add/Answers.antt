@@ -7,9 +7,6 @@ use Rattle.compiler_assembly.proofs.pool.Pool.add.Goals as goal
 pub same-self : goal.same-self
 same-self g c = refl
 
-pub same-term : goal.same-term
-same-term g c = refl
-
 pub invariant_of-self : goal.invariant_of-self
 invariant_of-self g c = rw c.in_default.ensures.kept c.self.invariant
 

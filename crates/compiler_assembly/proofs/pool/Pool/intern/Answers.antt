@@ -1,10 +1,7 @@
-use Rattle.std.proofs.Common.{refl, sym, ◌∙◌, inl, inr, arith}
+use Rattle.std.proofs.Common.{sym, ◌∙◌, inl, inr, arith}
 use Rattle.std.proofs.lemmas.Result.{IfOk-weaker, IfErr-weaker}
 use Rattle.compiler_assembly.proofs.PoolLemmas.{found_terms, place_number, place_there, number_later, added, added_terms, with_longer}
 use Rattle.compiler_assembly.proofs.pool.Pool.intern.Goals as goal
-
-pub same-term : goal.same-term
-same-term g c = refl
 
 pub add-requires : goal.add-requires
 add-requires g c = sym c.number.ensures ∙ c.in_default.is

@@ -237,8 +237,8 @@ write_arithmetic-overflow_sub-len g t c =
     let can = second-needs _ _ _ _ _ c.if-arguments-ne2.false c.index-arguments-1.is c.requires in
     omega (arith, second-longer _ _ _ _ can c.in_ok-write_second.ensures, c.len.ensures, c.len-end.ensures)
 
-pub write_arithmetic-failure_behind-failure-requires : goal.write_arithmetic-failure_behind-failure-requires
-write_arithmetic-failure_behind-failure-requires g t c =
+pub write_arithmetic-failure_after-failure-requires : goal.write_arithmetic-failure_after-failure-requires
+write_arithmetic-failure_after-failure-requires g t c =
     let can = second-needs _ _ _ _ _ c.if-arguments-ne2.false c.index-arguments-1.is c.requires in
     second-near _ _ _ c.put_arithmetic.new.lines can c.in_ok-write_second.ensures c.len.ensures c.len-end.ensures
 
@@ -254,7 +254,7 @@ pub write_arithmetic-returns : goal.write_arithmetic-returns
 write_arithmetic-returns g t c =
     on_ok_weaker _
     (arithmetic-lines _ _ _ _ _ c.args.lines.now c.requires c.if-arguments-ne2.false
-    c.index-arguments-0.is c.index-arguments-1.is c.len.ensures c.len-end.ensures c.failure_behind-failure.ensures
+    c.index-arguments-0.is c.index-arguments-1.is c.len.ensures c.len-end.ensures c.failure_after-failure.ensures
     c.in_ok-put_exit.ensures c.in_ok-put_arithmetic.ensures c.in_ok-write_second.ensures c.in_ok-put.ensures)
     c.write_one.ensures
 

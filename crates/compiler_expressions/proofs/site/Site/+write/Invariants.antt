@@ -1,4 +1,4 @@
--- by size, arguments in front of an expression of their size; what was put are the lines from the place on
+-- by size, arguments before an expression of their size; what was put are the lines from this position on
 use Rattle.std.proofs.Common.{◌≡◌, ◌+◌, ◌*◌, ◌++◌, drop}
 use Rattle.mspec_syntax.specs.Expression.{expression_size, expressions_size, assignments_size, expressions_of, assignments_of}
 use Rattle.mspec_syntax.specs.ExpressionView.{tail_expression}

@@ -1,4 +1,4 @@
--- the variables from the place on
+-- the variables from this position on
 use Rattle.std.proofs.Common.{◌≡◌, ◌++◌, map, drop}
 use Rattle.compiler_expressions.proofs.LineLemmas.{get_line}
 use Rattle.compiler_expressions.proofs.site.Site.put_variables.Given as goal

@@ -1,4 +1,4 @@
--- A filter is told whether it is open.
+-- `told` returns whether the filter is open.
 use Rattle.std.proofs.Common.{◌≡◌, List, [], ◌∷◌, ◌++◌, refl, sym, subst}
 use mathlib.Core.Bool.{true}
 use mathlib.Core.Bool.{◌&&◌}

@@ -1,4 +1,4 @@
--- It answers an error where the gate refuses the request, and else what the inner allocator answers. Assumes `Logic`.
+-- It returns an error if the gate refuses the request, and else what the inner allocator returns. Assumes `Logic`.
 use Rattle.std.proofs.Common.{◌≡◌, ℕ, ◌^◌, ◌<◌, Bool, true, false, List, [], ◌∷◌, Ok, Err, refl, w64}
 use seplogic.Ra.Ura.{Ura}
 use mir.Syntax.{Ty, Fn}

@@ -1,4 +1,4 @@
--- It counts the block, and gives it back to the inner allocator. Assumes `Logic`.
+-- It counts the block, and frees it in the inner allocator. Assumes `Logic`.
 use Rattle.std.proofs.Common.{◌≡◌, ℕ, ◌^◌, ◌<◌, List, [], ◌∷◌, refl, w64}
 use seplogic.Ra.Ura.{Ura}
 use mir.Syntax.{Ty, Fn}

@@ -1,4 +1,4 @@
--- what is collected so far and what is left make the whole
+-- what is collected so far and what remains make up the whole
 use Rattle.std.proofs.Common.{◌≡◌, ◌++◌, drop}
 use Rattle.mspec_syntax.specs.Specification.{heads_variables}
 use Rattle.mspec_syntax.proofs.variables.Variables.of_clauses.Given as goal

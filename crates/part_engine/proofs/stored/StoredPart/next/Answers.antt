@@ -10,5 +10,5 @@ returns-then-not-has_place g c = λ n w keeps state.
 pub returns : goal.returns
 returns g c = λ n w keeps state.
     let placed = sym (c.has_place.ensures w keeps.there (sound c.args.self.now.settings w c.args.self.now.fixes.items c.args.self.now.base state)) ∙ c.if-not-has_place.false in
-    let s = next_says c.args.self.now.settings w c.args.self.now.fixes.items c.args.self.now.base n c.args.key.now c.in_ok-next.next state placed (c.in_ok-next.ensures ∙ c.key_behind.ensures w keeps.there (sound c.args.self.now.settings w c.args.self.now.fixes.items c.args.self.now.base state) placed) in
+    let s = next_says c.args.self.now.settings w c.args.self.now.fixes.items c.args.self.now.base n c.args.key.now c.in_ok-next.next state placed (c.in_ok-next.ensures ∙ c.following_key.ensures w keeps.there (sound c.args.self.now.settings w c.args.self.now.fixes.items c.args.self.now.base state) placed) in
     (s.0, (w, keeps, s.1))

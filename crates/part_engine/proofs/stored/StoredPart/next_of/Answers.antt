@@ -13,5 +13,5 @@ returns-then-not-stops g c = λ answers wanted left.
 
 pub returns : goal.returns
 returns g c =
-    IfOk-weaker c.key_behind.result (λ next. (answers : Row → ℕ) (wanted : ℕ) → c.args.reach.left ≡ wanted - sum_by answers (take c.args.reach.rows c.args.rows.now) → option_map cursor_of next ≡ next_key answers wanted (take c.args.reach.rows c.args.rows.now)) _
-    (λ next is answers wanted left. is answers wanted left ∙ sym (next_stops c.args.self.now.settings c.args.self.now.base (scope_of c.args.scope.now) answers wanted (take c.args.reach.rows c.args.rows.now) (sym c.stops.ensures ∙ c.if-not-stops.false))) c.key_behind.ensures
+    IfOk-weaker c.following_key.result (λ next. (answers : Row → ℕ) (wanted : ℕ) → c.args.reach.left ≡ wanted - sum_by answers (take c.args.reach.rows c.args.rows.now) → option_map cursor_of next ≡ next_key answers wanted (take c.args.reach.rows c.args.rows.now)) _
+    (λ next is answers wanted left. is answers wanted left ∙ sym (next_stops c.args.self.now.settings c.args.self.now.base (scope_of c.args.scope.now) answers wanted (take c.args.reach.rows c.args.rows.now) (sym c.stops.ensures ∙ c.if-not-stops.false))) c.following_key.ensures

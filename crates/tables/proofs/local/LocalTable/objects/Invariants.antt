@@ -1,4 +1,4 @@
--- What is gathered are the objects of the parts so far.
+-- What was collected are the objects of the parts so far.
 use Rattle.tables.proofs.ObjectLemmas.{Gathered}
 use Rattle.tables.proofs.local.LocalTable.objects.Given as goal
 

@@ -1,4 +1,4 @@
--- The copies so far and what is left make up the whole.
+-- The copies so far and the remaining pairs make up the whole.
 use Rattle.std.proofs.Common.{◌≡◌, ◌++◌, drop}
 use Rattle.term_core.proofs.term.pairs.copy_pairs.Given as goal
 

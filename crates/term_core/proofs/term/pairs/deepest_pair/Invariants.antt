@@ -1,4 +1,4 @@
--- what is deepest so far and what is left make up the whole
+-- the greatest depth so far and that of the remaining pairs make up the whole
 use Rattle.std.proofs.Common.{◌≡◌, max, drop}
 use Rattle.std.specs.List.{AllByRecursion}
 use Rattle.term_core.specs.Datum.{entries_of}

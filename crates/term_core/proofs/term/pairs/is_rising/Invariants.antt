@@ -1,4 +1,4 @@
--- The keys so far rise.
+-- The keys so far are in ascending order.
 use Rattle.std.specs.List.{AllAdjacentBelow}
 use Rattle.term_core.proofs.MapLemmas.{Rises}
 use Rattle.term_core.proofs.term.pairs.is_rising.Given as goal

@@ -1,4 +1,4 @@
--- The keys so far and those that are left make up the whole.
+-- The keys so far and the remaining ones make up the whole.
 use Rattle.std.proofs.Common.{◌≡◌, ◌++◌, drop}
 use Rattle.term_core.specs.MapPairs.{keys_of}
 use Rattle.term_core.proofs.MapLemmas.{seen}

@@ -1,4 +1,4 @@
--- where what is left isn't so deep, nothing is
+-- if none of the remaining terms is as deep, none is at all
 use Rattle.std.proofs.Common.{◌<◌, drop}
 use Rattle.term_core.specs.Datum.{items_of}
 use Rattle.term_core.specs.Limits.{items_depth}

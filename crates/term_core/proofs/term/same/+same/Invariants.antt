@@ -1,4 +1,4 @@
--- by depth; elements from a place on are the same
+-- depth decreases; the elements from a place on are equal
 use Rattle.std.proofs.Common.{◌≡◌, ◌+◌, ◌*◌, drop}
 use Rattle.term_core.specs.Datum.{items_of}
 use Rattle.term_core.specs.Limits.{depth, items_depth}

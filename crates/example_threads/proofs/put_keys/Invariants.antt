@@ -1,6 +1,0 @@
-use Rattle.std.proofs.Common.{◌≡◌}
-use Rattle.example_threads.proofs.put_keys.Given as goal
-
-abbrev pub invariant-loop-key : goal.invariant-loop-key
-invariant-loop-key g l =
-    g.T.Turns.is_ready l.turns × (g.T.Turns.home l.turns ≡ g.T.Turns.home l.initial.turns)
