@@ -7,7 +7,7 @@ use Rattle.std.proofs.lemmas.List.Elements.{All-from_recursion}
 use Rattle.term_core.specs.Datum.{Datum}
 use Rattle.term_core.specs.Sizes.{depth_limit}
 use Rattle.mcode.specs.Program.{Program, Body, Frame, Rise, frame_number, most_parts, IsTelling, seen_body}
-use Rattle.mcode.specs.Building.{IsPartRefused, IsFrameRefused, empty_program, with_constant}
+use Rattle.mcode.specs.Building.{IsFrameRefused, empty_program, with_constant}
 use Rattle.mcode.specs.declared.fault.Fault.{Fault}
 use Rattle.mcode.specs.declared.fault.Fault.TheVariants as refusal
 use Rattle.mcode.specs.declared.kind.Kind.{Kind}
@@ -45,11 +45,6 @@ pub instructions_stop : (most : ℕ) (bytes : List ℕ) (xs : List Instr) (rest 
     → IsStop (instruction_format most) rest (Blames (an_instruction most) rest) stop → IsStop (rows (instruction_format most) n) bytes (Blames (many (instructions most) n) bytes) stop
 instructions_stop most bytes xs rest i n stop h fewer k =
     plain_stop (instruction_format most) (an_instruction most) (many (instructions most) n) (instruction_free most) bytes xs rest i n stop h fewer (λ file due begun. Due.instruction due begun fewer) k
-
-pub part_memory : (n : ℕ) (f : Fault) → n < most_parts → IsPartRefused n f → f ≡ refusal.Memory
-part_memory n refusal.Memory few h = refl
-part_memory n refusal.Limit few h = absurd (omega (arith, h))
-part_memory n refusal.FrameOrder few h = absurd h
 
 -- ---- constants that were read
 

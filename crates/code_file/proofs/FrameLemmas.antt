@@ -134,9 +134,6 @@ slot_unordered before last bytes v r is up h low = record {
   blame = λ file due. (bytes, refl, IsWrong.low_slot due h (λ above. low ((above_last (λ slot. slot) before last v is).1 above)));
 }
 
-pub slot_begins : (before : List ℕ) (last : Option ℕ) (bytes : List ℕ) (v : ℕ) (r : List ℕ) → LastIs (λ slot. slot) before last → Rise (λ slot. slot) before → IfSome last (λ l. l < v) → Begins u8_format bytes v r → Begins (such u8_format (AboveSlots before)) bytes v r
-slot_begins before last bytes v r is up above h = record { fits = (h.fits, (rise_above (λ slot. slot) before last v is up).0 above); parts = h.parts }
-
 pub slot_row_stop : (bytes xs rest : List ℕ) (i n : ℕ) (stop : FileStop) → IsRowSoFar u8_format RisingSlots bytes xs rest i → i < n
     → IsStop (such u8_format (AboveSlots xs)) rest (Blames (a_slot xs) rest) stop → IsStop (such (rows u8_format n) RisingSlots) bytes (Blames (many slots n) bytes) stop
 slot_row_stop bytes xs rest i n stop h fewer k =

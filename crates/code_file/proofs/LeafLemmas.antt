@@ -1,13 +1,13 @@
 -- Reading binaries, lengths and texts, and what stops it.
 use Rattle.std.specs.Str.{IsUtf8}
-use Rattle.std.proofs.Common.{◌≡◌, ℕ, ◌<◌, ◌≤◌, ◌^◌, List, ◌++◌, length, refl, sym, ap, subst, ◌∙◌, append_assoc, arith}
+use Rattle.std.proofs.Common.{◌≡◌, ℕ, ◌<◌, ◌≤◌, ◌^◌, List, ◌++◌, length, refl, sym, ap, subst, ◌∙◌, arith}
 use Rattle.std.proofs.lemmas.List.{length-append}
 use Rattle.term_core.specs.Sizes.{list_limit, binary_limit}
 use Rattle.code_writer.specs.Spelling.{u16_bytes}
-use Rattle.code_writer.specs.Format.{Format, Begins, BeginsNone}
+use Rattle.code_writer.specs.Format.{Begins, BeginsNone}
 use Rattle.code_writer.specs.Formats.{u16_format, u32_format, bytes_format, utf8_format, size_format, binary_format, length_format, IsListLength}
 use Rattle.code_writer.proofs.NumberLemmas.{u16_free, u32_free, bytes_free, length-u16_bytes}
-use Rattle.code_writer.proofs.LeafLemmas.{length_small, limited, limited_is, raw, raw_first, raw_rest, size_free, size_small, utf8_raw}
+use Rattle.code_writer.proofs.LeafLemmas.{length_small, limited, limited_is, raw_first, raw_rest, size_free, size_small, utf8_raw}
 use Rattle.code_file.specs.declared.stop.FileCause.TheVariants.{NotCanonical, Limit}
 use Rattle.code_file.specs.declared.stop.FileStop.{FileStop}
 use Rattle.code_file.specs.Due.{Due}
@@ -17,12 +17,6 @@ use Rattle.code_file.specs.Reads.{Blames, IsCut, IsRefuted, IsStop}
 use Rattle.code_file.proofs.StopLemmas.{stop_cut}
 
 -- ---- bytes after their number
-
-raw_begins : (N : Format ℕ) (bytes : List ℕ) (n : ℕ) (r bs s : List ℕ) → Begins N bytes n r → Begins (bytes_format n) r bs s → Begins (raw N) bytes bs s
-raw_begins N bytes n r bs s h k = record {
-  fits = subst N.Fits (sym k.fits) h.fits;
-  parts = h.parts ∙ ap (λ (t : List ℕ). N.spell n ++ t) k.parts ∙ sym (append_assoc (N.spell n) bs s) ∙ ap (λ m. (N.spell m ++ bs) ++ s) (sym k.fits);
-}
 
 -- ---- numbers within limits
 
@@ -47,9 +41,6 @@ binary_short bytes n r stop h within k =
     let size : Begins size_format bytes n r = record { fits = within; parts = h.parts } in
     stop_cut (bytes_format n) binary_format n (so_many n) a_binary_size r bytes stop refl
     (λ none bs s l. none bs s (raw_rest size_format size_free bytes n r bs s size l)) (λ file due. Due.content due size) k
-
-pub binary_begins : (r : List ℕ) (n : ℕ) (t bs s : List ℕ) → Begins u32_format r n t → n ≤ binary_limit → Begins (bytes_format n) t bs s → Begins binary_format r bs s
-binary_begins r n t bs s k within l = raw_begins size_format r n t bs s (record { fits = within; parts = k.parts }) l
 
 -- ---- the number of a list's elements
 
@@ -88,9 +79,6 @@ text_no_utf8 bytes n r bs s h k no_text = record {
       no_text (subst IsUtf8 (sym ((bytes_free n).one r bs cs s q k other).0) l.fits.1);
   blame = λ file due. (r, refl, IsWrong.no_text (Due.text due h) k no_text);
 }
-
-pub text_begins : (r : List ℕ) (n : ℕ) (t bs s : List ℕ) → Begins u16_format r n t → Begins (bytes_format n) t bs s → IsUtf8 bs → Begins utf8_format r bs s
-text_begins r n t bs s k l text = let begun = raw_begins u16_format r n t bs s k l in record { fits = (begun.fits, text); parts = begun.parts }
 
 pub text_least : (r bs s : List ℕ) → Begins utf8_format r bs s → 2 ≤ length r
 text_least r bs s h = omega (arith, ap length h.parts, length-append (u16_bytes (length bs) ++ bs) s, length-append (u16_bytes (length bs)) bs, length-u16_bytes (length bs))

@@ -33,7 +33,7 @@ use Rattle.code_file.specs.Causes.{IsWrong}
 use Rattle.code_file.specs.Reads.{Blames, IsCut, IsRefuted, IsStop, limit_stop}
 use Rattle.term_order.specs.Keys.{IsAboveKeys}
 use Rattle.code_file.proofs.StopLemmas.{stop_due, stop_cut}
-use Rattle.code_file.proofs.RowLemmas.{IsRowSoFar, row_start, row_step, row_end, row_stop, plain_step, plain_stop, such_counted_none}
+use Rattle.code_file.proofs.RowLemmas.{IsRowSoFar, row_start, row_step, row_end, row_stop, plain_stop, such_counted_none}
 
 -- ---- the first byte
 
@@ -91,9 +91,6 @@ atom_begins level bytes r bs s some h k term =
       parts = h.parts ∙ ap (λ (t : List ℕ). 2 ∷ t) k.parts ∙ ap (λ (t : List ℕ). 2 ∷ (u16_bytes (length t) ++ t) ++ s) (sym same);
     }
 
-pub binary_term_begins : (level : ℕ) (bytes r bs s : List ℕ) → 0 < level → Begins u8_format bytes 7 r → Begins binary_format r bs s → IsTerm (binary bs) → Begins (constant_format level) bytes (binary bs) s
-binary_term_begins level bytes r bs s some h k term = record { fits = (term.sound, omega arith); parts = h.parts ∙ ap (λ (t : List ℕ). 7 ∷ t) k.parts }
-
 -- the bytes of a text that has too many characters
 scalars_each : (cs : List ℕ) → scalars cs ≡ true → AreScalars cs
 scalars_each [] h = tt
@@ -123,12 +120,6 @@ atom_refused room level bytes r bs s fault.TooLong left next h k l left_is = rec
         IsWrong.many_characters (chars bs) (Due.text (Due.text_size (tagged room level bytes 2 r next h due)) size) (scalars_each (chars bs) (scalars-chars bs k.fits.1)) text l.1,
       );
 }
-
-pub not_deep : (cs : List ℕ) (f : Fault) → IsFault f (atom cs) → (f ≢ fault.TooDeep) × (f ≢ fault.DuplicateKey)
-not_deep cs fault.Memory h = (λ is. cc, λ is. cc)
-not_deep cs fault.TooLong h = (λ is. cc, λ is. cc)
-not_deep cs fault.TooDeep h = absurd (omega (arith, h))
-not_deep cs fault.DuplicateKey h = absurd h
 
 -- making a term that is spelled fails only if memory runs out
 pub made : (level : ℕ) (bytes : List ℕ) (d : Datum) (s : List ℕ) (f : Fault) → level < 256 → Begins (constant_format level) bytes d s → IsFault f d → f ≡ fault.Memory
@@ -200,10 +191,6 @@ tuple_begins room level bytes r n t ds s next h k l =
       parts = h.parts ∙ ap (λ (x : List ℕ). 3 ∷ x) all.parts
           ∙ ap (λ (x : List ℕ). x ++ s) (sym (tuple_bytes ds));
     }
-
--- one term is a row of one
-pub row_of_one : (room : ℕ) (bytes : List ℕ) (d : Datum) (s : List ℕ) → Begins (constant_format room) bytes d s → IsRowSoFar (constant_format room) (λ _. Unit {0}) bytes (d ∷ []) s 1
-row_of_one room bytes d s h = plain_step (constant_format room) bytes [] bytes 0 d s (row_start (constant_format room) (λ _. Unit {0}) bytes tt) h
 
 -- ---- pairs and maps
 

@@ -38,9 +38,6 @@ any_kind_short bytes stop h = stop_cut u8_format any_kind_format 1 a_signature_k
     go none kind.Map s l = none 4 s (record { fits = omega arith; parts = l.parts })
     go none (kind.Tuple n) s l = none 5 _ (record { fits = omega arith; parts = l.parts })
 
-pub any_begins : (bytes : List ℕ) (b : ℕ) (r : List ℕ) → Begins u8_format bytes b r → b ≡ 0 → Begins any_kind_format bytes kind.Any r
-any_begins bytes b r h zero = record { fits = tt; parts = h.parts ∙ ap (λ (c : ℕ). c ∷ r) zero }
-
 -- a kind other than Any is spelled as in frames
 pub told_begins : (bytes : List ℕ) (k : Kind) (s : List ℕ) → Begins kind_format bytes k s → Begins any_kind_format bytes k s
 told_begins bytes kind.Any s h = absurd (h.fits.1 refl)

@@ -61,13 +61,6 @@ limit_past P i bytes n r cause h other wrong = record {
 
 -- ---- two numbers
 
-pub two_first : (bytes : List ℕ) (stop : FileStop) → IsStop u16_format bytes (IsCut 2 bytes) stop → IsStop (both u16_format u16_format) bytes (IsCut 4 bytes) stop
-two_first bytes stops.Memory h = tt
-two_first bytes (stops.At cause left) h = record {
-  none = λ p s k. h.none p.0 (u16_format.spell p.1 ++ s) (both_first u16_format u16_format bytes p s k);
-  blame = (h.blame.0, h.blame.1, omega (arith, h.blame.2));
-}
-
 pub two_second : (bytes : List ℕ) (n : ℕ) (r : List ℕ) (stop : FileStop) → Begins u16_format bytes n r → IsStop u16_format r (IsCut 2 r) stop → IsStop (both u16_format u16_format) bytes (IsCut 4 bytes) stop
 two_second bytes n r stops.Memory begun h = tt
 two_second bytes n r (stops.At cause left) begun h = record {

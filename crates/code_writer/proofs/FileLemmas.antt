@@ -268,15 +268,6 @@ read_back p program file constants instructions frames routines =
     let spells : Spells (file_bytes p) p = record { program = program; file = file; constants = constants; instructions = instructions; frames = frames; routines = routines; spelling = refl } in
     (spells, λ q s. one_code (file_bytes p) q p s spells)
 
--- what was written for the parts of code without routines is its file
-pub plain_written : (p : Program) (bytes : List ℕ) (slots : ℕ) (ds : List Datum) (is : List Instr) (fs : List Frame) → slots ≡ p.slots → ds ≡ p.constants → is ≡ p.instructions → fs ≡ p.frames → p.around.routines ≡ []
-    → bytes ≡ magic ++ (u16_bytes version ++ (u16_bytes slots ++ (constants_bytes ds ++ (instructions_bytes is ++ frames_bytes fs))))
-    → bytes ≡ file_bytes p
-plain_written p bytes slots ds is fs slots_are ds_are is_are fs_are none parts =
-    parts
-    ∙ (λ i. file_of (record { slots = slots_are i; constants = ds_are i; instructions = is_are i; frames = fs_are i; around = p.around }) [])
-    ∙ ap (file_of p) (sym none)
-
 -- what was written for the parts of code with routines is its file
 pub code_written : (p : Program) (bytes : List ℕ) (slots : ℕ) (ds : List Datum) (is : List Instr) (fs : List Frame) (n : ℕ) (ts : List Routine) → slots ≡ p.slots → ds ≡ p.constants → is ≡ p.instructions → fs ≡ p.frames → n ≡ suc (length ts) → ts ≡ p.around.routines → 0 < length ts
     → bytes ≡ magic ++ (u16_bytes routine_version ++ (constants_bytes ds ++ (u16_bytes n ++ ((u16_bytes slots ++ (instructions_bytes is ++ frames_bytes fs)) ++ flat_map routine_bytes ts))))

@@ -20,9 +20,6 @@ both_begins F G bytes x r y s p q = record {
 pub both_first : {X Y : Type 0} (F : Format X) (G : Format Y) (bytes : List ℕ) (p : X × Y) (s : List ℕ) → Begins (both F G) bytes p s → Begins F bytes p.0 (G.spell p.1 ++ s)
 both_first F G bytes p s h = record { fits = h.fits.0; parts = h.parts ∙ append_assoc (F.spell p.0) (G.spell p.1) s }
 
-pub both_second : {X Y : Type 0} (F : Format X) (G : Format Y) (p : X × Y) (bytes s : List ℕ) → Begins (both F G) bytes p s → Begins G (G.spell p.1 ++ s) p.1 s
-both_second F G p bytes s h = record { fits = h.fits.1; parts = refl }
-
 -- after the first part of a pair comes the second
 pub both_rest : {X Y : Type 0} (F : Format X) (G : Format Y) → IsPrefixFree F → (bytes : List ℕ) (x : X) (r : List ℕ) (p : X × Y) (s : List ℕ)
     → Begins F bytes x r → Begins (both F G) bytes p s → (x ≡ p.0) × Begins G r p.1 s

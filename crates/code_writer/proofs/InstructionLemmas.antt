@@ -86,9 +86,6 @@ function_free = by_number function_number (λ _. Unit {0}) one_function
 pub arithmetic_free : IsPrefixFree arithmetic_format
 arithmetic_free = by_number arithmetic_number (λ _. Unit {0}) one_arithmetic
 
-pub opcode_free : (most : ℕ) → IsPrefixFree (opcode_format most)
-opcode_free most = by_number opcode_number (λ o. opcode_number o ≤ most) one_opcode
-
 -- ---- the parts of an instruction
 
 pub data Parts : Type 0 where

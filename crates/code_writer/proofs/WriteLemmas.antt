@@ -1,7 +1,7 @@
 -- Parts appended to what was written.
 use Rattle.std.proofs.Common.{◌≡◌, ℕ, zero, suc, ◌+◌, ◌<◌, ◌≤◌, ◌^◌, List, [], ◌∷◌, ◌++◌, length, get_or, take, drop, map, All, refl, sym, ap, subst, ◌∙◌, append_assoc, arith}
 use Rattle.std.specs.List.{flat_map}
-use Rattle.std.proofs.lemmas.List.{drop_more, drop_all, take_all, append-nil}
+use Rattle.std.proofs.lemmas.List.{drop_more, take_all}
 use Rattle.std.proofs.lemmas.List.Elements.{All-more}
 use Rattle.mcode.specs.Program.{Frame}
 use Rattle.mcode.specs.declared.kind.Kind.{Kind}
@@ -32,9 +32,6 @@ pub record IsWritten {X : Type 0} (spell : X → List ℕ) (Fits : X → Type 0)
   pub bytes : now ++ flat_map spell (drop i xs) ≡ old ++ flat_map spell xs
   pub each : All Fits (take i xs)
 
-pub written_none : {X : Type 0} (spell : X → List ℕ) (Fits : X → Type 0) (xs : List X) (old : List ℕ) → IsWritten spell Fits xs 0 old old
-written_none spell Fits xs old = record { bytes = refl; each = λ k d within. absurd (omega arith) }
-
 pub written_more : {X : Type 0} (spell : X → List ℕ) (Fits : X → Type 0) (xs : List X) (i : ℕ) (d : X) (old now new : List ℕ)
     → IsWritten spell Fits xs i old now → i < length xs → new ≡ now ++ spell (get_or xs i d) → Fits (get_or xs i d) → IsWritten spell Fits xs (i + 1) old new
 written_more {X} spell Fits xs i d old now new h within next fits = record {
@@ -49,9 +46,6 @@ pub written_next : {X : Type 0} (spell : X → List ℕ) (Fits : X → Type 0) (
     → IsWritten spell Fits xs i old now → i < length xs → x ≡ get_or xs i x → new ≡ now ++ spell x → Fits x → IsWritten spell Fits xs (i + 1) old new
 written_next {X} spell Fits xs i x old now new h within is next fits =
     written_more spell Fits xs i x old now new h within (next ∙ ap (λ (y : X). now ++ spell y) is) (subst Fits is fits)
-
-pub written_bytes : {X : Type 0} (spell : X → List ℕ) (Fits : X → Type 0) (xs : List X) (i : ℕ) (old now : List ℕ) → IsWritten spell Fits xs i old now → length xs ≤ i → now ≡ old ++ flat_map spell xs
-written_bytes {X} spell Fits xs i old now h past = sym (ap (λ (ys : List X). now ++ flat_map spell ys) (drop_all i xs past) ∙ append-nil now) ∙ h.bytes
 
 pub written_each : {X : Type 0} (spell : X → List ℕ) (Fits : X → Type 0) (xs : List X) (i : ℕ) (old now : List ℕ) → IsWritten spell Fits xs i old now → length xs ≤ i → All Fits xs
 written_each {X} spell Fits xs i old now h past = subst (λ (ys : List X). All Fits ys) (take_all i xs past) h.each

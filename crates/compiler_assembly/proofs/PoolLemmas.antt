@@ -206,10 +206,6 @@ pub place_nowhere : (xs : List Datum) (n : ℕ) (d : Datum) → length xs ≤ n 
 place_nowhere xs n d past left =
     sym (ap (λ ys. place_from ys n d) (drop_all n xs past)) ∙ left ∙ place_first xs d
 
--- if there are only a few constants, none has to be found by the map
-pub pool_few : (found : Datum → Option ℕ) (cs : List Datum) → length cs ≤ few → IsPool found cs
-pool_few found cs short = record { numbers = λ more d. absurd (omega (arith, more, short)); count = omega (arith, short) }
-
 -- the last of a list comes after the others
 last_split : (xs : List Datum) (n : ℕ) (x : Datum) → length xs ≡ n + 1 → x ≡ get_or xs n x → (xs ≡ take n xs ++ x ∷ []) × (length (take n xs) ≡ n) × (slice_get xs n ≡ Some x)
 last_split [] n x size is = absurd (omega (arith, size))

@@ -7,12 +7,10 @@ use Rattle.std.proofs.lemmas.List.Elements.{All-append, All-cons}
 use native.Mathlib.Numerals.{unary_clauses}
 use Rattle.term_operand.specs.Order.{is_same}
 use Rattle.term_core.specs.Datum.{Datum}
-use Rattle.mcode.specs.Instr.{target_of}
-use Rattle.mcode.specs.Program.{Program, Frame, alone, Rise, IsFrame, frame_number, frame_at, most_slots, most_parts}
+use Rattle.mcode.specs.Program.{Program, Frame, alone, Rise, frame_number, frame_at}
 use Rattle.mcode.specs.declared.instr.Instr.{Instr}
-use Rattle.compiler_assembly.specs.Assembled.{assembled, number_of, with_term, with_named, constant_of, constants_from, block_constants, resolved, instr_of, frame_of, with_label, line_instructions, block_instructions, line_frames, block_frames, IsPlain, IsCode}
-use Rattle.compiler_assembly.specs.Assembling.{target_named}
-use Rattle.compiler_assembly.specs.Labels.{AllLabels, AllBlockLabels, AllTargets, AllBlockTargets}
+use Rattle.compiler_assembly.specs.Assembled.{assembled, number_of, with_term, with_named, constant_of, constants_from, block_constants, instr_of, frame_of, with_label, line_instructions, block_instructions, line_frames, block_frames, IsPlain}
+use Rattle.compiler_assembly.specs.Labels.{AllLabels, AllBlockLabels}
 use Rattle.compiler_assembly.specs.Laws.{AssembledStands}
 use Rattle.compiler_assembly.specs.Line.{SourceOp, SourceLabel, SourceLine, Block, line_total}
 use Rattle.compiler_assembly.specs.Pool.{place_of, IsFront}
@@ -280,32 +278,6 @@ constant_count slots bs = omega (arith, block_constant_count [] bs)
 
 -- ---- where instructions jump
 
--- an instruction jumps to where its line leads
-instr_target : (cs : List Datum) (behind pc : ℕ) (o : SourceOp) → target_of (instr_of cs behind pc o) ≡ option_map (resolved behind pc) (target_named o)
-instr_target cs behind pc op.Load = refl
-instr_target cs behind pc o = refl
-
-some_mapped : {X : Type 0} (P : ℕ → Type 0) (f : X → ℕ) (o : Option X) → IfSome o (λ x. P (f x)) → IfSome (option_map f o) P
-some_mapped P f None h = h
-some_mapped P f (Some x) h = h
-
-all_line_targets : (P : ℕ → Type 0) (cs : List Datum) (behind pc : ℕ) (ls : List SourceLine) → AllTargets P behind pc ls → All (λ i. IfSome (target_of i) P) (line_instructions cs behind pc ls)
-all_line_targets P cs behind pc [] targets = λ i d within. absurd (omega (arith, within))
-all_line_targets P cs behind pc (l ∷ ls) targets =
-    let here = subst (λ o. IfSome o P) (sym (instr_target cs behind pc l.op)) (some_mapped P (resolved behind pc) (target_named l.op) targets.0) in
-    All-cons (λ i. IfSome (target_of i) P) (instr_of cs behind pc l.op) (line_instructions cs behind (suc pc) ls) here (all_line_targets P cs behind (suc pc) ls targets.1)
-
-all_block_targets : (P : ℕ → Type 0) (cs : List Datum) (pc : ℕ) (bs : List Block) → AllBlockTargets P pc bs → All (λ i. IfSome (target_of i) P) (block_instructions cs pc bs)
-all_block_targets P cs pc [] targets = λ i d within. absurd (omega (arith, within))
-all_block_targets P cs pc (b ∷ bs) targets =
-    let behind = pc + length b.lines in
-    All-append (λ i. IfSome (target_of i) P) (line_instructions cs behind pc b.lines) (block_instructions cs behind bs) (all_line_targets P cs behind pc b.lines targets.0) (all_block_targets P cs behind bs targets.1)
-
--- what holds of the target of each line holds of that of each instruction
-pub targets_all : (P : ℕ → Type 0) (slots : ℕ) (bs : List Block) → AllBlockTargets P 0 bs → All (λ i. IfSome (target_of i) P) (assembled slots bs).instructions
-unfolding assembled
-targets_all P slots bs targets = all_block_targets P (block_constants [] bs) 0 bs targets
-
 -- ---- routines
 
 instr_plain : (cs : List Datum) (behind pc : ℕ) (o : SourceOp) → IsPlain (instr_of cs behind pc o)
@@ -336,16 +308,3 @@ assembled_alone slots bs = refl
 assembled_slots : (slots : ℕ) (bs : List Block) → (assembled slots bs).slots ≡ slots
 unfolding assembled
 assembled_slots slots bs = refl
-
--- if there are few enough slots and lines, frames are in order and targets are in range, assembled code is code
-pub assembled_is_code : (slots : ℕ) (bs : List Block) → slots ≤ most_slots → line_total bs ≤ most_parts → AllBlockLabels (λ s n l. IsFrame (frame_of s n l)) 0 bs → AllBlockTargets (λ t. t ≤ most_parts) 0 bs → IsCode (assembled slots bs)
-assembled_is_code slots bs few short labels targets = record {
-  program = record {
-    slots = omega (arith, few, assembled_slots slots bs);
-    constants = omega (arith, short, constant_count slots bs);
-    instructions = omega (arith, short, instruction_count slots bs);
-    frame_count = omega (arith, short, frame_count slots bs);
-    frames = record { each = frames_all IsFrame slots bs labels; rise = frames_rise slots bs };
-  };
-  targets = targets_all (λ t. t ≤ most_parts) slots bs targets;
-}

@@ -1,7 +1,6 @@
 -- Lines of parts, and which of them are writable.
-use Rattle.std.proofs.Common.{◌≡◌, ◌==◌, Bool, true, false, ℕ, zero, suc, ◌+◌, ◌-◌, ◌<◌, ◌≤◌, Some, None, Option, Box, inl, inr, List, [], ◌∷◌, ◌++◌, map, length, get_or, drop, refl, sym, ◌∙◌, ap, subst, arith, drop-cons, add-one, length-append}
+use Rattle.std.proofs.Common.{◌≡◌, ◌==◌, Bool, true, false, ℕ, zero, suc, ◌+◌, ◌-◌, ◌<◌, ◌≤◌, Some, None, Option, Box, List, [], ◌∷◌, ◌++◌, map, length, get_or, drop, refl, sym, ◌∙◌, ap, subst, arith, drop-cons, add-one, length-append}
 use Rattle.std.proofs.lemmas.List.{drop_all, append_assoc}
-use Rattle.std.proofs.lemmas.Bool.{cases_eq}
 use Rattle.term_core.specs.Datum.{Datum}
 use Rattle.term_core.specs.Datum.Datum.{nil}
 use Rattle.term_operand.specs.Operand.{boolean}
@@ -40,14 +39,6 @@ not-empty (n ∷ ns) b e h = omega arith
 pub near : (mode : Mode) (n : ℕ) → n ≤ most_counted → IsNear (failure mode n)
 near Condition n h = tt
 near Body n h = h
-
-pub cells-near : (mode : Mode) (n i : ℕ) → AreWritable (cell_lines mode n) → i < n → IsNear (failure mode (i + 1))
-cells-near mode zero i h below = absurd (omega arith)
-cells-near mode (suc n) i h below =
-    elim (cases_eq i n) [
-      | inl e ↦ let q : suc n ≡ i + 1 = omega arith in subst (λ k. IsNear (failure mode k)) q h.0
-      | inr differ ↦ cells-near mode n i h.1 (omega arith)
-    ]
 
 -- one more cell
 pub cells-more : (mode : Mode) (n : ℕ) (ls old : List SourceLine) → ls ≡ cell_lines mode n ++ old → plain (op.MakeCons (failure mode (n + 1))) ∷ ls ≡ cell_lines mode (n + 1) ++ old

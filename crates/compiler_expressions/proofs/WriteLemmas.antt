@@ -28,9 +28,6 @@ use Rattle.compiler_expressions.proofs.LineLemmas.{writable-left, writable-right
 behind-exit : (a : List SourceLine) (l : SourceLine) (exit old ls : List SourceLine) → ls ≡ exit ++ old → a ++ l ∷ ls ≡ (a ++ l ∷ exit) ++ old
 behind-exit a l exit old ls h = ap (λ x. a ++ l ∷ x) h ∙ sym (append_assoc a (l ∷ exit) old)
 
-two-left : {X : Type 0} (a b c d : List X) → a ++ (b ++ (c ++ d)) ≡ (a ++ (b ++ c)) ++ d
-two-left a b c d = ap (λ x. a ++ x) (sym (append_assoc b c d)) ∙ sym (append_assoc a (b ++ c) d)
-
 longer : (a b ls : List SourceLine) → ls ≡ a ++ b → length b ≤ length ls
 longer a b ls h = omega (arith, ap length h, length-append a b)
 

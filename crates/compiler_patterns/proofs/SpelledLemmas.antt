@@ -3,7 +3,7 @@ use Rattle.std.proofs.Common.{◌≡◌, Bool, true, false, ◌&&◌, ℕ, zero,
 use Rattle.std.specs.Prelude.{IfSome}
 use Rattle.std.specs.Option.{is_some}
 use Rattle.std.proofs.Math.Bool.{and_assoc}
-use Rattle.std.proofs.lemmas.List.{append_assoc, append-nil, map-append, drop_all, take_all, length-drop}
+use Rattle.std.proofs.lemmas.List.{append_assoc, map-append, take_all, length-drop}
 use Rattle.term_core.specs.Datum.{Datum, Items, items_of, cells}
 use Rattle.term_core.specs.Datum.Datum.{tuple}
 use Rattle.term_core.specs.Limits.{IsTerm, within_limits}
@@ -123,11 +123,6 @@ list-made (p ∷ ps) t (x ∷ ds) d h e =
 pub own-made : (p : Pattern) (d : Datum) (made : Option Datum) → IsSoundPattern p → own_term p ≡ Some d → made ≡ within_limits d → made ≡ Some d
 own-made p d made s is e = e ∙ sym (made-within_limits d d refl (spelled-term p d s is))
 
--- if no pattern is left, the terms so far are all
-pub terms-all : (ps : List Pattern) (i : ℕ) (ds : List Datum) → length ps ≤ i → map Some ds ++ map own_term (drop i ps) ≡ map own_term ps → map own_term ps ≡ map Some ds
-terms-all ps i ds end front =
-    sym front ∙ ap (λ l. map Some ds ++ map own_term l) (drop_all i ps end) ∙ append-nil (map Some ds)
-
 -- the terms after one more pattern
 pub terms-more : (ps : List Pattern) (i : ℕ) (p : Pattern) (ds ds' : List Datum) (d : Datum) → i < length ps → p ≡ get_or ps i p → own_term p ≡ Some d → ds' ≡ ds ++ d ∷ [] → map Some ds ++ map own_term (drop i ps) ≡ map own_term ps → map Some ds' ++ map own_term (drop (i + 1) ps) ≡ map own_term ps
 terms-more ps i p ds ds' d h is own more front =
@@ -141,9 +136,6 @@ terms-more ps i p ds ds' d h is own more front =
 -- what holds of a pattern holds of it as it is made, and the other way round
 pub back : {X : Type 0} (make : List X → Pattern) (Q : Pattern → Type 0) (xs ps : List X) (p : Pattern) → make ps ≡ p → xs ≡ ps → Q p → Q (make xs)
 back make Q xs ps p is same h = subst Q (sym (ap make same ∙ is)) h
-
-pub forth : {X : Type 0} (make : List X → Pattern) (Q : Pattern → Type 0) (xs ps : List X) (p : Pattern) → make ps ≡ p → xs ≡ ps → Q (make xs) → Q p
-forth make Q xs ps p is same h = subst Q (ap make same ∙ is) h
 
 -- a list whose elements spell terms spells one if and only if its tail does
 pub tail-decides : (ps xs : List Pattern) (t p : Pattern) (first last : Bool) → cells_of ps t ≡ p → xs ≡ ps → first ≡ all_spell xs → first ≡ true → last ≡ spells t → last ≡ spells p

@@ -81,10 +81,6 @@ pub open-tail : (es : List Pattern) (t : Pattern) (j : ℕ) → spells t ≡ fal
 open-tail es t j no_term =
     cells-spell (drop j es) t ∙ ap (λ b. all_spell (drop j es) && b) no_term ∙ and-false (all_spell (drop j es))
 
--- the rest without elements spells a term if the tail does
-pub rest-none : (es : List Pattern) (t : Pattern) (i : ℕ) → length es ≤ i → spells t ≡ true → spells (cells_of (drop i es) t) ≡ true
-rest-none es t i h one = ap (λ l. spells (cells_of l t)) (drop_all i es h) ∙ one
-
 -- a rest with one more element that spells a term spells one
 pub rest-more : (es : List Pattern) (t : Pattern) (i : ℕ) (e : Pattern) → i < length es → e ≡ get_or es i e → spells e ≡ true → spells (cells_of (drop (i + 1) es) t) ≡ true → spells (cells_of (drop i es) t) ≡ true
 rest-more es t i e h is one rest =

@@ -170,8 +170,3 @@ module _ (slots : List ℕ) where
         ap (λ i. plain (op.Bind i) ∷ []) at
         ∙ sym (ap (λ x. if x then plain (op.Get (rank_of slots n)) ∷ plain (op.Equal Failing) ∷ [] else plain (op.Bind (rank_of slots n)) ∷ []) known))
         refl lines
-
--- lines after lines
-pub puts-puts : (x y : List SourceLine) (a b c : Draft) → Puts x a b → Puts y b c → Puts (x ++ y) a c
-puts-puts x y a b c p q =
-    record { lines = q.lines ∙ ap (λ l. l ++ y) p.lines ∙ append_assoc a.lines x y; bound = q.bound ∙ p.bound }

@@ -20,9 +20,6 @@ own_elsewhere n k act (Some answer) apart = rw (ne_eqb n k apart) refl
 pub own_rest : (n : ℕ) (seen rest : History) → own n (seen ++ rest) ≡ own n seen → own n rest ≡ []
 own_rest n seen rest same = append_cancel_left (own n seen) (own n rest) [] (sym (filter-append _ seen rest) ∙ same ∙ sym (append-nil (own n seen)))
 
-pub goes_on_same : (log : History) → GoesOn log log
-goes_on_same log = ([], sym (append-nil log))
-
 pub goes_on_more : (old log more : History) → GoesOn old log → GoesOn old (log ++ more)
 goes_on_more old log more h = (h.0 ++ more, ap (λ (es : History). es ++ more) h.1 ∙ append_assoc old h.0 more)
 

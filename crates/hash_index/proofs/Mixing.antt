@@ -10,7 +10,7 @@ use Rattle.std.proofs.lemmas.List.Sums.{sum_by-cons, sum_by-drop_more, count_by-
 use Rattle.hash_index.specs.declared.cell.Cell.{Cell}
 use Rattle.hash_index.specs.Cells.{free, free_cell, is_free, IsTaken, cell_at}
 use Rattle.hash_index.specs.Index.{cells, HasIn, Puts, AreMixed, AreSame}
-use Rattle.hash_index.specs.Kept.{AreFound, AreNear, IsKept}
+use Rattle.hash_index.specs.Kept.{AreFound, AreNear}
 use Rattle.hash_index.proofs.Cells.{the_cell, one_if, counted, not_counted, taken_within, taken_is, not_both, taken_holds}
 
 -- ---- free cells
@@ -40,16 +40,6 @@ all_free (suc n) =
     let sum : count_by is_free (free_cell ∷ replicate n free_cell) ≡ 1 + count_by is_free (replicate n free_cell)
     = sum_by-cons (λ (x : Cell). one_if (is_free x)) free_cell (replicate n free_cell) in
     omega (arith, all_free n)
-
--- ---- an index that is at most three quarters full has free cells
-pub some_free : (n left free : ℕ) → n + left ≡ n / 4 * 3 + free → 0 < n + left → 0 < free
-some_free n left free load some = omega arith
-
-pub kept_free : (cells : List Cell) (left longest : ℕ) → IsKept cells left longest → 0 < length cells → 0 < count_by is_free cells
-kept_free cells left longest kept some = let load = kept.load in omega arith
-
-pub kept_room : (cells : List Cell) (left longest : ℕ) → IsKept cells left longest → 0 < left → 0 < count_by is_free cells
-kept_room cells left longest kept some = let load = kept.load in omega arith
 
 -- ---- the rows so far
 pub greater : (m n : ℕ) → ord_max nat_cmp m n ≡ max m n

@@ -1,7 +1,7 @@
 -- Building code.
 use Rattle.std.specs.Prelude.{ℕ, zero, suc, ◌≡◌, ◌-◌, ◌<◌, ◌≤◌, Result, Ok, Err, is_ok, if◌then◌else◌, Option, Some, None, ⊤, List, [], ◌∷◌, ◌++◌, All, length, get_or, set}
 use Rattle.std.proofs.Common.{ap, ap₂, arith, refl, sym, subst, ◌∙◌}
-use Rattle.std.proofs.lemmas.List.{length-append, nil_from_length}
+use Rattle.std.proofs.lemmas.List.{length-append}
 use Rattle.std.proofs.lemmas.List.Elements.{All-cons, All-nil, All-append}
 use Rattle.std.proofs.lemmas.Option.{none-some, get_or_from_slice_get, slice_get_within}
 use Rattle.term_core.specs.Datum.{Datum}
@@ -111,16 +111,6 @@ pub finished_none : (p : Program) (main : Option Body) → main ≡ None → IsW
 finished_none p main is whole begun_is =
     (λ i. record { slots = p.slots; constants = p.constants; instructions = p.instructions; frames = p.frames; around = record { number = (whole.number ∙ sym (ap length (begun_is.0 is))) i; main = (whole.main ∙ sym is) i; routines = p.around.routines } })
     ∙ ap (λ o. finished_from (begun p main) o) (sym is)
-
--- the code after a first routine was begun
-pub first_begun : (p q r : Program) (main : Option Body) (arguments : List Kind) (gives : Kind) (slots : ℕ) (seen : Body) → IsBegun p main → length p.around.routines ≡ 0 → q ≡ one_routine_more p (routine_of arguments gives (empty_body slots)) → r ≡ with_body q (empty_body slots) → seen ≡ seen_body q → begun r (Some seen) ≡ with_routine (begun p main) arguments gives slots
-first_begun p q r main arguments gives slots seen begun_is none pushed exchanged old =
-    let t = routine_of arguments gives (empty_body slots) in
-    let empty : p.around.routines ≡ [] = nil_from_length p.around.routines none in
-    ap (λ x. begun x (Some seen)) (exchanged ∙ ap (λ x. with_body x (empty_body slots)) pushed)
-    ∙ ap (λ x. begun (code_of p.constants (empty_body slots) (p.around.routines ++ t ∷ [])) (Some x)) (old ∙ ap seen_body pushed)
-    ∙ ap (λ ts. begun (code_of p.constants (empty_body slots) (ts ++ t ∷ [])) (Some (seen_body p))) empty
-    ∙ ap₂ (λ (ts : List Routine) o. seen_from p (empty_body slots) (record { number = suc (length ts); main = Some (main_of o (seen_body p)); routines = with_last_body ts (seen_body p) ++ t ∷ [] })) (sym empty) (sym (begun_is.1 empty))
 
 -- the code after a further routine was begun
 pub next_begun : (p q r s : Program) (main : Option Body) (arguments : List Kind) (gives : Kind) (slots n : ℕ) (seen : Body) → IsBegun p main → length p.around.routines ≡ suc n → q ≡ one_routine_more p (routine_of arguments gives (empty_body slots)) → r ≡ with_body q (empty_body slots) → seen ≡ seen_body q → s ≡ with_stored r n seen → (begun s main ≡ with_routine (begun p main) arguments gives slots) × IsBegun s main × (length s.around.routines ≡ suc (length p.around.routines))

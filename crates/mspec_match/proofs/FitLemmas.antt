@@ -45,11 +45,6 @@ mutual
   FieldsFit-more (field k p fs) s r es e h =
       ((h.0.0, h.0.1, Fits-more p s r h.0.0 e h.0.2), FieldsFit-more fs s r es e h.1)
 
--- an answer for a claim is an answer for an equivalent claim
-pub Answers-same : (r : Bool) (vs : List ℕ) (a b : List (Option Datum)) (F G : (ℕ → Option Datum) → Type 0) → ((s : ℕ → Option Datum) → F s → G s) → ((s : ℕ → Option Datum) → G s → F s) → Answers r vs a b F → Answers r vs a b G
-Answers-same true vs a b F G to from h = record { grown = h.grown; holds = to _ h.holds; least = λ s over extends claim. h.least s over extends (from s claim) }
-Answers-same false vs a b F G to from h = λ s over extends claim. h s over extends (from s claim)
-
 -- binding for one claim and then for another binds for both
 pub Binds-then : (vs : List ℕ) (a b c : List (Option Datum)) (F G : (ℕ → Option Datum) → Type 0) → ((s r : ℕ → Option Datum) → Extends s r → F s → F r) → Binds vs a b F → Binds vs b c G → Binds vs a c (λ s. F s × G s)
 Binds-then vs a b c F G more h k = record {
@@ -81,9 +76,6 @@ Answers-fact false vs a P h = λ s over extends claim. h claim
 pub record AllFront (vs : List ℕ) (first now : List (Option Datum)) (ps : List Pattern) (ds : List Datum) (i : ℕ) : Type 0 where
   pub done : (last : List (Option Datum)) → Binds vs now last (λ s. AllFit (patterns_of (drop i ps)) s (items_of (drop i ds))) → Binds vs first last (λ s. AllFit (patterns_of ps) s (items_of ds))
   pub failed : NeverHolds vs now (λ s. AllFit (patterns_of (drop i ps)) s (items_of (drop i ds))) → NeverHolds vs first (λ s. AllFit (patterns_of ps) s (items_of ds))
-
-pub AllFront-none : (vs : List ℕ) (a : List (Option Datum)) (ps : List Pattern) (ds : List Datum) → AllFront vs a a ps ds 0
-AllFront-none vs a ps ds = record { done = λ last h. h; failed = λ h. h }
 
 split_at : {X : Type 0} (xs : List X) (i : ℕ) (x : X) → i < length xs → x ≡ get_or xs i x → drop i xs ≡ x ∷ drop (i + 1) xs
 split_at xs i x h e = drop-cons xs i x h ∙ ap (λ y. y ∷ drop (suc i) xs) (sym e) ∙ ap (λ j. x ∷ drop j xs) (sym (add-one i))
@@ -135,9 +127,6 @@ lengths-never (p ∷ ps) (d ∷ ds) s differ h = lengths-never ps ds s (λ e. di
 pub record FieldsFront (vs : List ℕ) (first now : List (Option Datum)) (fs : List (Datum × Pattern)) (es : List (Datum × Datum)) (i : ℕ) : Type 0 where
   pub done : (last : List (Option Datum)) → Binds vs now last (λ s. FieldsFit (fields_of (drop i fs)) s (entries_of es)) → Binds vs first last (λ s. FieldsFit (fields_of fs) s (entries_of es))
   pub failed : NeverHolds vs now (λ s. FieldsFit (fields_of (drop i fs)) s (entries_of es)) → NeverHolds vs first (λ s. FieldsFit (fields_of fs) s (entries_of es))
-
-pub FieldsFront-none : (vs : List ℕ) (a : List (Option Datum)) (fs : List (Datum × Pattern)) (es : List (Datum × Datum)) → FieldsFront vs a a fs es 0
-FieldsFront-none vs a fs es = record { done = λ last h. h; failed = λ h. h }
 
 abbrev pub FieldFits : Datum × Pattern → List (Datum × Datum) → (ℕ → Option Datum) → Type 0
 FieldFits f es s = (v : Datum) × (value_at f.0 (entries_of es) ≡ Some v) × Fits f.1 s v

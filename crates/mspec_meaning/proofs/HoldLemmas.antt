@@ -16,9 +16,6 @@ pub record HoldFront (es : List Expression) (i : ℕ) (s : Substitution) (o : Da
   pub to : AllHold (drop i es) s o → AllHold es s o
   pub from : AllHold es s o → AllHold (drop i es) s o
 
-pub HoldFront-none : (es : List Expression) (s : Substitution) (o : Datum) → HoldFront es 0 s o
-HoldFront-none es s o = record { to = λ h. h; from = λ h. h }
-
 pub HoldFront-more : (es : List Expression) (i : ℕ) (e : Expression) (s : Substitution) (o : Datum) → i < length es → e ≡ get_or es i e → value_of Condition e s o ≡ Some true_term → HoldFront es i s o → HoldFront es (i + 1) s o
 HoldFront-more es i e s o h is holds front =
     let split : drop i es ≡ e ∷ drop (i + 1) es = split_at es i e h is in
@@ -48,14 +45,6 @@ body_value-last (x ∷ y ∷ es) s o e h =
     let count : length (x ∷ y ∷ es) - 1 ≡ suc (length (y ∷ es) - 1) = omega arith in
     let next = rw count at h in
     body_value-last (y ∷ es) s o e next
-
-pub body_value-none : (es : List Expression) (s : Substitution) (o : Datum) → slice_get es (length es - 1) ≡ None → body_value es s o ≡ None
-body_value-none [] s o h = refl
-body_value-none (x ∷ []) s o h = absurd (cc)
-body_value-none (x ∷ y ∷ es) s o h =
-    let count : length (x ∷ y ∷ es) - 1 ≡ suc (length (y ∷ es) - 1) = omega arith in
-    let next = rw count at h in
-    body_value-none (y ∷ es) s o next
 
 -- after a clause that does not apply, the remaining clauses decide
 pub Means-skip : (cs : Specification) (i : ℕ) (c : Clause) (o : Datum) (answer : Option Datum) → i < length cs → c ≡ get_or cs i c → ¬ IsApplicable c o → Means (drop (i + 1) cs) o answer → Means (drop i cs) o answer

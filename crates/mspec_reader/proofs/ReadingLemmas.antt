@@ -13,19 +13,13 @@ use Rattle.mspec_syntax.specs.Rising.{rising}
 use Rattle.mspec_syntax.specs.Word.{word_of}
 use Rattle.mspec_syntax.specs.Specification.{Clause, Specification, clause_variables, IsWithinLimits}
 use Rattle.mspec_syntax.specs.Grammar.{is_hole, IsPattern, IsAtomPattern, IsHeadForm, IsExpression, AreExpressions, AreConditions, AreBodyExpressions, triple, IsNoTriple, IsClause, AreClauses, AreElementsClauses, IsSpecification}
-use Rattle.mspec_syntax.specs.Faults.{named_variables, head_faults, expression_faults, expressions_faults, conditions_faults, body_faults, clause_faults, clauses_faults, elements_faults, specification_faults, Refuses, IsRefusal, IsSizeRefusal}
+use Rattle.mspec_syntax.specs.Faults.{named_variables, head_faults, expression_faults, expressions_faults, conditions_faults, body_faults, clause_faults, clauses_faults, elements_faults, Refuses, IsRefusal, IsSizeRefusal}
 use Rattle.mspec_syntax.specs.declared.word.Word.{Word}
 use Rattle.mspec_syntax.specs.declared.word.Word.TheVariants as word
 use Rattle.mspec_syntax.specs.declared.fault.SpecFault.{SpecFault}
-use Rattle.mspec_syntax.specs.declared.fault.SpecFault.TheVariants.{Memory, NotAList, NotAClause}
+use Rattle.mspec_syntax.specs.declared.fault.SpecFault.TheVariants.{Memory}
 use Rattle.mspec_syntax.proofs.PatternLemmas.{both_empty, split_at, IsPattern-variables, IsPattern-one, ArePatterns-faults, Refuses-before, Refuses-behind, Refuses-same}
 use Rattle.mspec_syntax.proofs.ExpressionLemmas.{IsExpression-faults, IsExpression-one}
-
--- a list is not a clause
-pub list-clause : (clause : ℕ) (ds : List Datum) (t d : Datum) → cells ds t ≡ d → 0 < length ds → Refuses (NotAClause clause) (clause_faults clause d)
-list-clause clause [] t d is some = absurd (omega arith)
-list-clause clause (x ∷ ds) t d is some =
-    Refuses-same (NotAClause clause) _ _ (ap (clause_faults clause) is) (inr (record { others = []; first = refl }))
 
 AreExpressions-faults : (i : ℕ) (vs : List ℕ) (ds : List Datum) (es : List Expression) → AreExpressions vs ds es → expressions_faults i vs ds ≡ []
 AreExpressions-faults i vs [] es h = refl
@@ -115,23 +109,6 @@ ExpressionsFront-refuses clause vs ds i x es f within is front h =
     let known = rw split at front.clean in
     Refuses-same f _ _ known (Refuses-before f (expression_faults clause vs x) (expressions_faults clause vs (drop (i + 1) ds)) h)
 
--- a body is read by reading its elements, of which there are some
-pub body-read : (vs : List ℕ) (o : Option (List Datum)) (ds : List Datum) (es : List Expression) → Some ds ≡ o → 0 < length ds → AreExpressions vs ds es → AreBodyExpressions vs o es
-body-read vs o [] es e some h = absurd (omega arith)
-body-read vs o (d ∷ ds) es e some h = let P : Option (List Datum) → Type 0 = λ x. AreBodyExpressions vs x es in subst P e h
-
-pub body-refused : (clause : ℕ) (vs : List ℕ) (o : Option (List Datum)) (ds : List Datum) (f : SpecFault) → Some ds ≡ o → 0 < length ds → Refuses f (expressions_faults clause vs ds) → Refuses f (body_faults clause vs o)
-body-refused clause vs o [] f e some h = absurd (omega arith)
-body-refused clause vs o (d ∷ ds) f e some h = Refuses-same f _ _ (ap (body_faults clause vs) e) h
-
--- three terms are the elements of a tuple of three, and any other number is not
-pub three-triple : (ds : List Datum) (d a b c : Datum) → tuple (items_of ds) ≡ d → length ds ≡ 3 → a ≡ get_or ds 0 a → b ≡ get_or ds 1 b → c ≡ get_or ds 2 c → triple a b c ≡ d
-three-triple [] d a b c is three e f h = absurd (omega arith)
-three-triple (x ∷ []) d a b c is three e f h = absurd (omega arith)
-three-triple (x ∷ y ∷ []) d a b c is three e f h = absurd (omega arith)
-three-triple (x ∷ y ∷ z ∷ []) d a b c is three e f h = rw (e, f, h) is
-three-triple (x ∷ y ∷ z ∷ w ∷ ds) d a b c is three e f h = absurd (omega arith)
-
 pub other-triple : (ds : List Datum) (d : Datum) → tuple (items_of ds) ≡ d → (length ds ≡ 3 → ⊥) → IsNoTriple d
 other-triple [] d is other = subst IsNoTriple is tt
 other-triple (x ∷ []) d is other = subst IsNoTriple is tt
@@ -142,26 +119,6 @@ other-triple (x ∷ y ∷ z ∷ w ∷ ds) d is other = subst IsNoTriple is tt
 pub list-triple : (ds : List Datum) (t d : Datum) → cells ds t ≡ d → 0 < length ds → IsNoTriple d
 list-triple [] t d is some = absurd (omega arith)
 list-triple (x ∷ ds) t d is some = subst IsNoTriple is tt
-
-no_triple-items : (i : ℕ) (ds : Items) → IsNoTriple (tuple ds) → clause_faults i (tuple ds) ≡ NotAClause i ∷ []
-no_triple-items i no_items h = refl
-no_triple-items i (item a no_items) h = refl
-no_triple-items i (item a (item b no_items)) h = refl
-no_triple-items i (item a (item b (item c no_items))) h = absurd h
-no_triple-items i (item a (item b (item c (item d ds)))) h = refl
-
--- the fault of a term that is not a tuple of three is that it is not a clause
-pub no_triple-faults : (i : ℕ) (d : Datum) → IsNoTriple d → clause_faults i d ≡ NotAClause i ∷ []
-no_triple-faults i (integer z) h = refl
-no_triple-faults i (atom cs) h = refl
-no_triple-faults i (tuple ds) h = no_triple-items i ds h
-no_triple-faults i (map es) h = refl
-no_triple-faults i nil h = refl
-no_triple-faults i (cons head tail) h = refl
-no_triple-faults i (binary bs) h = refl
-
-pub no_triple-refused : (i : ℕ) (d : Datum) → IsNoTriple d → Refuses (NotAClause i) (clause_faults i d)
-no_triple-refused i d h = Refuses-same (NotAClause i) _ _ (sym (no_triple-faults i d h)) (inr (record { others = []; first = refl }))
 
 pub conditions-refused : (i : ℕ) (h cs b d : Datum) (p : Pattern) (vs : List ℕ) (f : SpecFault) → triple h cs b ≡ d → IsPattern h p × IsHeadForm p → vs ≡ rising (pattern_variables p) → Refuses f (conditions_faults i vs (proper_elements cs)) → Refuses f (clause_faults i d)
 conditions-refused i h cs b d p vs f is head same refused =
@@ -283,16 +240,6 @@ ClausesFront-refuses ds i x cs f within is front h =
     let split : drop i ds ≡ x ∷ drop (i + 1) ds = split_at ds i x within is in
     let known = rw split at front.clean in
     Refuses-same f _ _ known (Refuses-before f (clause_faults i x) (clauses_faults (suc i) (drop (i + 1) ds)) h)
-
--- a specification is read by reading the elements of its list
-pub specification-read : (d : Datum) (ds : List Datum) (s : Specification) → Some ds ≡ proper_elements d → AreClauses ds s → IsSpecification d s
-specification-read d ds s e h = let P : Option (List Datum) → Type 0 = λ o. AreElementsClauses o s in subst P e h
-
-pub specification-refused : (d : Datum) (ds : List Datum) (f : SpecFault) → Some ds ≡ proper_elements d → Refuses f (clauses_faults 0 ds) → Refuses f (specification_faults d)
-specification-refused d ds f e h = Refuses-same f _ _ (ap elements_faults e) h
-
-pub no_list-refused : (d : Datum) → None ≡ proper_elements d → Refuses NotAList (specification_faults d)
-no_list-refused d e = inr (record { others = []; first = ap elements_faults (sym e) })
 
 -- why a specification is rejected for its size is why its term is rejected
 pub size-refused : (d : Datum) (s : Specification) (f : SpecFault) → IsSpecification d s → IsSizeRefusal f s → IsRefusal f d

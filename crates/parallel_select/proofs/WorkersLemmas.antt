@@ -1,6 +1,6 @@
 -- Workers in parallel.
 use Rattle.std.proofs.Common.{zero, suc, ◌≡◌, ℕ, ◌+◌, ◌<◌, ◌≤◌, inl, refl, ap, sym, subst, ◌∙◌, arith, List, [], ◌∷◌, length}
-use Rattle.std.specs.Prelude.{All, flat_map, get_or, map, ◌++◌, Bool, true, false, ◌||◌, if◌then◌else◌, min, Result, Ok, Err, IfOk, IfErr, MatchResult}
+use Rattle.std.specs.Prelude.{All, flat_map, get_or, map, ◌++◌, Bool, true, false, ◌||◌, if◌then◌else◌, min, Result, Ok, Err, IfOk, IfErr}
 use Rattle.std.proofs.lemmas.Bool.{eqb-true, true≢false}
 use Rattle.term_core.specs.Datum.{Datum}
 use Rattle.part_core.specs.Acts.{Purpose}
@@ -138,18 +138,6 @@ module _ {T : Type 0} where
 -- what holds of all holds of the first and of the rest
 pub all_first : {T : Type 0} (P : T → Type 0) (xs rest : List T) (x : T) → xs ≡ x ∷ rest → All P xs → P x
 all_first P xs rest x is all = subst (All P) is all 0 x (omega arith)
-
-pub all_rest : {T : Type 0} (P : T → Type 0) (xs rest : List T) (x : T) → xs ≡ x ∷ rest → All P xs → All P rest
-all_rest P xs rest x is all k d inside = subst (All P) is all (suc k) d (omega (arith, inside))
-
--- the two cases of a result
-pub match_ok : {X E : Type 0} (r : Result X E) (P : X → Type 0) (Q : E → Type 0) → MatchResult r P Q → IfOk r P
-match_ok (Ok x) P Q h = h
-match_ok (Err e) P Q h = tt
-
-pub match_err : {X E : Type 0} (r : Result X E) (P : X → Type 0) (Q : E → Type 0) → MatchResult r P Q → IfErr r Q
-match_err (Ok x) P Q h = tt
-match_err (Err e) P Q h = h
 
 pub first_tallied : {T A : Type 0} (is_ready : T → Type 0) (home : T → Home) (sees : T → Views → Type 0) (query : Query A) (workers : ℕ) (purpose : Purpose) (number one others count : ℕ) (one_refused others_refused refused : Bool) (old new last : T) (olds news lasts : List T)
     → last ≡ new → lasts ≡ news

@@ -1,7 +1,6 @@
 -- Objects for which a query returns true.
-use Rattle.std.proofs.Common.{◌≡◌, ◌↔◌, ◌≤◌, List, [], ◌∷◌, refl, ap, sym, ◌∙◌, length, arith}
-use Rattle.std.specs.Prelude.{Bool, true, false, not, ◌||◌, if◌then◌else◌, IsTrue, Option, Some, None, filter}
-use Rattle.std.specs.List.{list_any}
+use Rattle.std.proofs.Common.{◌≡◌, ◌↔◌, ◌≤◌, [], ◌∷◌, refl, ap, sym, ◌∙◌}
+use Rattle.std.specs.Prelude.{Bool, true, false, ◌||◌, if◌then◌else◌, IsTrue, Option, Some, None}
 use Rattle.std.specs.Option.{option_map_or}
 use Rattle.std.proofs.lemmas.Bool.{true≢false}
 use Rattle.term_core.specs.Datum.{Datum}
@@ -11,30 +10,6 @@ use Rattle.mcode.specs.Answer.{answer_of}
 use Rattle.mcode.specs.Program.{Program}
 use Rattle.part_core.specs.Visits.{is_true}
 use Rattle.part_core.proofs.KeyLemmas.{by_test, same_is, same_from}
-
--- for how many objects of a list of at most one the query returns true
-pub chosen_count : (p : Program) (os : List Datum) → length os ≤ 1 → length (filter (is_true p) os) ≡ (if list_any (is_true p) os then 1 else 0)
-chosen_count p [] few = refl
-chosen_count p (t ∷ []) few = of (is_true p t)
-  where
-    of : (b : Bool) → length (if b then t ∷ [] else []) ≡ (if b || false then 1 else 0)
-    of true = refl
-    of false = refl
-chosen_count p (t ∷ u ∷ os) few = absurd (omega (arith, few))
-
--- what is left of a list of at most one object after one for which the query returns true is deleted
-pub chosen_left : (p : Program) (os : List Datum) → length os ≤ 1 → filter (λ t. not (is_true p t)) os ≡ (if list_any (is_true p) os then [] else os)
-chosen_left p [] few = of (list_any (is_true p) [])
-  where
-    of : (b : Bool) → [] ≡ (if b then [] else (let none : List Datum = [] in none))
-    of true = refl
-    of false = refl
-chosen_left p (t ∷ []) few = of (is_true p t)
-  where
-    of : (b : Bool) → (if not b then t ∷ [] else []) ≡ (if b || false then [] else t ∷ [])
-    of true = refl
-    of false = refl
-chosen_left p (t ∷ u ∷ os) few = absurd (omega (arith, few))
 
 -- a test that agrees with the code's answer being the atom true is `is_true`
 pub holds_is : (p : Program) (t : Datum) (b : Bool) → (IsTrue b ↔ (answer_of p t ≡ Some (boolean true))) → b ≡ is_true p t

@@ -11,7 +11,7 @@ use Rattle.term_core.specs.Datum.Datum.{nil}
 use Rattle.term_operand.specs.Order.{is_same}
 use Rattle.term_core.specs.Parts.{field_of}
 use Rattle.hash_index.specs.declared.cell.Cell.{Cell}
-use Rattle.hash_index.specs.Index.{AreMixed, AreSame, Has, HasIn, Puts, cells}
+use Rattle.hash_index.specs.Index.{AreMixed, Has, HasIn, Puts, cells}
 use Rattle.part_core.specs.declared.kind.TableKind.TheVariants.{Set}
 use Rattle.part_core.specs.declared.settings.Settings.{Settings}
 use Rattle.part_core.specs.Rows.{Row, has_row, is_live}
@@ -29,7 +29,6 @@ use Rattle.part_hash.specs.Slots.{AreListed, IsAdded, Listing}
 use Rattle.part_hash.specs.Standing.{ArePlaced, IsRising, Stands, is_noted}
 use Rattle.part_hash.specs.Swept.{is_dead_at}
 use Rattle.part_hash.proofs.StandLemmas.{None≢Some, some_is}
-use Rattle.part_hash.proofs.WriteLemmas.{listed_same}
 
 -- a row after the others was created last
 rising_more : (list : List Standing) (e : Standing) → IsRising list → All (λ f. f.0.made < e.0.made) list → IsRising (list ++ e ∷ [])
@@ -142,32 +141,6 @@ stands_mixed {A} o s t rows seed mixes same by slots made dying lost stands = re
     back : (i : ℕ) (r : Kept) → get t.rows i ≡ Some r → get s.rows i ≡ Some r
     back i r here = ap (λ (slab : Slab Kept). get slab i) (sym same) ∙ here
 
--- the same rows, in a slab with more room, in an index with more room
-pub stands_same : {A : Type 0} (o : Settings) (s t : Store A) (rows : List Row) → ((i : ℕ) → get t.rows i ≡ get s.rows i) → slab_len t.rows ≡ slab_len s.rows → AreSame (cells s.index) (cells t.index) → t.seed ≡ s.seed → t.slots.items ≡ s.slots.items → t.made ≡ s.made → ((i : ℕ) → is_noted s.lost s.dying.items i ≡ true → is_noted t.lost t.dying.items i ≡ true) → Stands o s rows → Stands o t rows
-stands_same {A} o s t rows same count index seed slots made noted stands = record {
-  list = stands.list;
-  are = stands.are;
-  placed = record {
-    stands = All-weaker (λ (e : Standing). get s.rows e.0.at ≡ Some (e.1, e.0.made)) (λ (e : Standing). get t.rows e.0.at ≡ Some (e.1, e.0.made)) (λ e there. same e.0.at ∙ there) stands.list stands.placed.stands;
-    rising = stands.placed.rising;
-    below = subst (λ n. All (λ (e : Standing). e.0.made < n) stands.list) (sym made) stands.placed.below;
-    low = stands.placed.low;
-  };
-  listed = subst (λ n. AreListed o t.rows n t.slots.items stands.list) (sym made) (subst (λ (vs : List Listing). AreListed o t.rows s.made vs stands.list) (sym slots)
-      (listed_same o s.rows t.rows s.made s.slots.items stands.list stands.list (λ p. ap (λ (f : Option Kept). is_some (if_made p.made f)) (same p.at)) (λ j. refl) stands.listed));
-  found = record {
-    those = λ i r here. stands.found.those i r (back i r here);
-    once = λ i j r q here there. stands.found.once i j r q (back i r here) (back j q there);
-    known = λ i r here. subst (λ n. HasIn (cells t.index) n i) (ap (λ n. mixed n r.0.0) (sym seed)) (index.kept (mixed s.seed r.0.0) i (stands.found.known i r (back i r here)));
-  };
-  apart = stands.apart;
-  count = count ∙ stands.count;
-  noted = λ i gone. noted i (stands.noted i (ap (λ (f : Option Kept). option_map_or (λ (u : Kept). not (is_live u.0)) f false) (sym (same i)) ∙ gone));
-}
-  where
-    back : (i : ℕ) (r : Kept) → get t.rows i ≡ Some r → get s.rows i ≡ Some r
-    back i r here = sym (same i) ∙ here
-
 -- ---- how many slots there are
 
 -- the slots stay, or are twice as many
@@ -190,10 +163,6 @@ stays count slots more base is stay =
 pub base_some : (n : ℕ) → IsBase n → 0 < n
 base_some zero base = absurd (true≢false (sym base))
 base_some (suc n) base = omega arith
-
-pub base_grown : (count slots more : ℕ) → IsBase slots → more ≡ slots_after Set (count - 1) count slots → IsBase more
-base_grown count slots more base is =
-    subst IsBase (sym is) (slots_grow Set (count - 1) count slots base).0
 
 pub doubled_where : (count slots more : ℕ) → IsBase slots → more ≡ slots_after Set (count - 1) count slots → slots_after Set (count - 1) count slots ≡ (if nat_lt slots more then 2 * slots else slots)
 doubled_where count slots more base is =

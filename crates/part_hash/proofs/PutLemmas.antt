@@ -16,7 +16,7 @@ use Rattle.part_core.specs.After.{slots_after}
 use Rattle.part_core.proofs.AfterLemmas.{slots_same}
 use Rattle.part_core.proofs.KeyLemmas.{by_test}
 use Rattle.part_core.proofs.KeyedLemmas.{written_of}
-use Rattle.part_rows.specs.declared.put.Put.TheVariants.{Kept, Revived, Done}
+use Rattle.part_rows.specs.declared.put.Put.TheVariants.{Revived, Done}
 use Rattle.part_rows.specs.Puts.{put_at}
 
 -- inserting an object changes the objects of its key's row
@@ -44,11 +44,6 @@ as_they_were k (r ∷ rows) =
 
 pub same_objects : (k : Datum) (rows : List Row) → IsDistinct is_same (keys_of rows) → rows_at_key k (λ _. objects_at rows k) rows ≡ rows
 same_objects k rows apart = sym (written_of k (λ os. os) (objects_at rows k) rows apart refl) ∙ as_they_were k rows
-
--- what became of the row
-pub kept_at : (k : Datum) (os : List Datum) (replaces : Bool) → is_live (k, os) ≡ true → replaces ≡ false → Kept ≡ put_at replaces (Some os)
-kept_at k [] replaces live none = absurd (true≢false (sym live))
-kept_at k (t ∷ os) replaces live none = rw none refl
 
 pub revived_at : (k : Datum) (os : List Datum) (replaces : Bool) → is_live (k, os) ≡ false → Revived ≡ put_at replaces (Some os)
 revived_at k [] replaces dead = refl

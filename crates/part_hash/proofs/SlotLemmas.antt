@@ -1,8 +1,8 @@
 -- What one slot lists.
 use Rattle.std.proofs.Common.{◌≡◌, ◌≢◌, ℕ, ◌<◌, ◌≤◌, ◌+◌, suc, List, [], ◌∷◌, ◌++◌, refl, ap, sym, subst, ◌∙◌, length, length-append, get_or, arith, eq-eqb}
-use Rattle.std.specs.Prelude.{Bool, true, false, not, ◌==◌, ◌&&◌, Option, None, All, filter, is_some, nat_lt}
+use Rattle.std.specs.Prelude.{Bool, true, false, not, ◌==◌, ◌&&◌, Option, None, All, filter, is_some}
 use Rattle.std.specs.List.{AllWithin}
-use Rattle.std.proofs.lemmas.Bool.{true≢false, eqb-true, ltb-true, ltb-false}
+use Rattle.std.proofs.lemmas.Bool.{true≢false, eqb-true}
 use Rattle.std.proofs.lemmas.List.{get_or_append_left}
 use Rattle.std.proofs.lemmas.List.Elements.{All-filter, All-head, All-nil, All-push, All-tail, All-weaker, filter-append}
 use Rattle.slab.specs.Slab.{Slab, Updates, get}
@@ -70,23 +70,6 @@ fewer_gone slab v gone few = record {
     front = s.front;
   };
 }
-
--- more are passed at the front
-pub more_passed : (slab : Slab Kept) (v : Listing) (last front : ℕ) → AllWithin (λ p. is_standing slab p ≡ false) v.0 v.2 last → last ≤ length v.0 → front ≤ last → Relists slab v (v.0, v.1, front)
-more_passed slab v last front gone within at_most = record {
-  listed = λ made places s. record {
-    there = s.there;
-    gone = s.gone;
-    passed = λ k d low high. by_test (nat_lt k v.2) _
-        (λ before. s.passed k d low (ltb-true _ _ before))
-        (λ after. gone k d (ltb-false k v.2 after) (omega (arith, high, at_most)));
-    below = s.below;
-    front = omega (arith, within, at_most);
-  };
-}
-
-pub relists_same : (slab : Slab Kept) (v : Listing) → Relists slab v v
-relists_same slab v = record { listed = λ made places s. s }
 
 pub relists_both : (slab : Slab Kept) (u v w : Listing) → Relists slab u v → Relists slab v w → Relists slab u w
 relists_both slab u v w one two = record { listed = λ made places s. two.listed made places (one.listed made places s) }

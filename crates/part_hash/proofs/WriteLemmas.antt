@@ -1,7 +1,7 @@
 -- Rows that are written, and dead ones that are noted.
 use Rattle.std.proofs.Common.{◌≡◌, ◌≢◌, ℕ, ◌<◌, ◌≤◌, ◌+◌, zero, suc, List, [], ◌∷◌, ◌++◌, refl, ap, sym, subst, ◌∙◌, length, get_or, get_or-set_same, get_or-set_other, arith, eq-eqb}
 use Rattle.std.specs.Prelude.{Bool, true, false, not, ◌==◌, ◌||◌, cond, if◌then◌else◌, Option, Some, None, All, filter, is_some, map, nat_lt, slice_index_or}
-use Rattle.std.specs.List.{IsDistinct, list_any}
+use Rattle.std.specs.List.{IsDistinct}
 use Rattle.std.specs.Map.{lookup, values_of}
 use Rattle.std.specs.Option.{option_map, option_map_or}
 use Rattle.std.proofs.lemmas.Bool.{true≢false, eqb-true, ltb-true, ltb-false, not-true}
@@ -182,28 +182,6 @@ written_as {A} o s t rows after at made key before os same stands there is index
     subst (λ rs. Stands o t rs) same (stands_written o s t rows at made key before os stands there is index seed slots later dying lost dead)
 
 -- ---- notes
-
-any_push : (at : ℕ) (ns : List ℕ) (n : ℕ) → list_any (λ m. m == at) (ns ++ n ∷ []) ≡ (list_any (λ m. m == at) ns || (n == at))
-any_push at [] n = of (n == at)
-  where
-    of : (b : Bool) → (b || false) ≡ (false || b)
-    of true = refl
-    of false = refl
-any_push at (m ∷ ns) n =
-    by_test (m == at) _ (λ here. rw here refl) (λ other. rw other (any_push at ns n))
-
--- what was noted is noted still where one more is
-pub noted_still : (lost : Bool) (ns : List ℕ) (n at : ℕ) → is_noted lost ns at ≡ true → is_noted lost (ns ++ n ∷ []) at ≡ true
-noted_still true ns n at noted = refl
-noted_still false ns n at noted = any_push at ns n ∙ rw noted refl
-
-pub noted_now : (lost : Bool) (ns : List ℕ) (at : ℕ) → is_noted lost (ns ++ at ∷ []) at ≡ true
-noted_now true ns at = refl
-noted_now false ns at = any_push at ns at ∙ either (list_any (λ m. m == at) ns)
-  where
-    either : (b : Bool) → (b || (at == at)) ≡ true
-    either true = refl
-    either false = eq-eqb at at refl
 
 -- a row that has objects needs no note
 pub live_noted : (k : Datum) (os : List Datum) (lost : Bool) (ns : List ℕ) (at : ℕ) → is_empty os ≡ false → is_live (k, os) ≡ false → is_noted lost ns at ≡ true

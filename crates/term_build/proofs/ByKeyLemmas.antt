@@ -51,9 +51,6 @@ are_apart-from_AreApart (d ∷ ds) h =
 pub apart_from_are_apart : (pairs : List Pair) → are_apart (keys_of pairs) ≡ true → ¬ HasTwice pairs
 apart_from_are_apart pairs h = apart-no_twin pairs (AreApart-from_are_apart (keys_of pairs) h)
 
-pub are_apart_from_no_twin : (pairs : List Pair) → ¬ HasTwice pairs → are_apart (keys_of pairs) ≡ true
-are_apart_from_no_twin pairs h = are_apart-from_AreApart (keys_of pairs) (apart_from_no_twin pairs h)
-
 same_tests : (a b : Bool) → (a ≡ true → b ≡ true) → (b ≡ true → a ≡ true) → a ≡ b
 same_tests true true to from = refl
 same_tests true false to from = sym (to refl)
@@ -71,9 +68,6 @@ apart-sorted test ds xs ys same moved says =
 
 placed_before : (p q : Pair) (qs : List Pair) → is_lt (datum_cmp p.0 q.0) ≡ true → placed p (q ∷ qs) ≡ p ∷ q ∷ qs
 placed_before p q qs e = ap (λ b. cond b (p ∷ q ∷ qs) (q ∷ placed p qs)) e
-
-placed_behind : (p q : Pair) (qs : List Pair) → is_lt (datum_cmp p.0 q.0) ≡ false → placed p (q ∷ qs) ≡ q ∷ placed p qs
-placed_behind p q qs e = ap (λ b. cond b (p ∷ q ∷ qs) (q ∷ placed p qs)) e
 
 -- placing a pair is a permutation of that pair and the others
 pub placed-IsPermutation : (p : Pair) (qs : List Pair) → IsPermutation (p ∷ qs) (placed p qs)

@@ -1,7 +1,6 @@
 -- The parts of a term are less deep than the term.
 use Rattle.std.proofs.Common.{◌≡◌, ℕ, ◌<◌, ◌≤◌, Option, Some, None, List, length, get_or, refl, ap, arith}
 use Rattle.term_core.specs.Datum.{Datum, items_of, entries_of, cells}
-use Rattle.term_core.specs.Datum.Datum.{tuple, map}
 use Rattle.term_core.specs.Limits.{depth, items_depth, entries_depth, tail_depth}
 use Rattle.term_core.specs.Term.{tail_of, IsTail}
 use Rattle.term_core.specs.TermFalls.{depth-cells, tail_depth-no_list}
@@ -28,10 +27,3 @@ tail-falls ds None tail d e is some no_list = absurd (cc)
 tail-falls ds (Some x) tail d e is some no_list =
     let same : x ≡ tail = cc in
     omega (arith, depth-cells ds x some, tail_depth-no_list x no_list, ap depth is, ap depth same)
-
--- the elements of a tuple and the pairs of a map are less deep than it
-pub items-fall : (ds : List Datum) (d : Datum) → tuple (items_of ds) ≡ d → items_depth (items_of ds) < depth d
-items-fall ds d is = omega (arith, ap depth is)
-
-pub entries-fall : (es : List (Datum × Datum)) (d : Datum) → map (entries_of es) ≡ d → entries_depth (entries_of es) < depth d
-entries-fall es d is = omega (arith, ap depth is)

@@ -1,18 +1,9 @@
 -- Hashing rows of terms one place at a time.
-use Rattle.std.proofs.Common.{◌≡◌, ℕ, ◌+◌, ◌<◌, Option, None, Some, List, [], ◌∷◌, length, get_or, drop, refl, arith, add-one}
-use Rattle.term_core.specs.Datum.{Datum, items_of, entries_of, cells}
+use Rattle.std.proofs.Common.{◌≡◌, ℕ, ◌+◌, ◌<◌, Option, None, Some, List, [], ◌∷◌, length, refl, arith}
+use Rattle.term_core.specs.Datum.{Datum, items_of, cells}
 use Rattle.term_core.specs.Datum.Datum.{integer, atom, tuple, map, nil, cons, binary}
-use Rattle.term_core.specs.KeyHash.{mix, key_hash, mix_items, mix_entries, mix_cells}
+use Rattle.term_core.specs.KeyHash.{mix, key_hash, mix_items, mix_cells}
 use Rattle.term_core.specs.Term.{tail_of, IsTail}
-use Rattle.term_core.proofs.RowLemmas.{drop_at}
-
-pub mix_items-at : (hash : ℕ) (xs : List Datum) (i : ℕ) (x : Datum) → i < length xs → x ≡ get_or xs i x → mix_items (mix hash (key_hash x)) (items_of (drop (i + 1) xs)) ≡ mix_items hash (items_of (drop i xs))
-unfolding key_hash
-mix_items-at hash xs i x there is = rw (add-one, drop_at xs i x there is)
-
-pub mix_entries-at : (hash : ℕ) (xs : List (Datum × Datum)) (i : ℕ) (x : Datum × Datum) → i < length xs → x ≡ get_or xs i x → mix_entries (mix (mix hash (key_hash x.0)) (key_hash x.1)) (entries_of (drop (i + 1) xs)) ≡ mix_entries hash (entries_of (drop i xs))
-unfolding key_hash
-mix_entries-at hash xs i x there is = rw (add-one, drop_at xs i x there is)
 
 mix_cells-end : (hash : ℕ) (t : Option Datum) → IsTail t → mix_cells hash (tail_of t) ≡ mix hash (key_hash (tail_of t))
 unfolding key_hash

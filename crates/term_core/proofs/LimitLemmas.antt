@@ -2,13 +2,13 @@
 use Rattle.std.proofs.Common.{◌≡◌, ℕ, suc, ◌+◌, ◌<◌, ◌≤◌, max, Option, None, Some, List, [], ◌∷◌, ◌++◌, length, get_or, refl, ap, subst, arith}
 use Rattle.term_core.specs.Datum.{Datum, items_of, entries_of, cells, item_count, entry_count, cell_count, IsNoList}
 use Rattle.term_core.specs.Datum.Datum.{integer, atom, tuple, map, nil, cons, binary}
-use Rattle.term_core.specs.Limits.{tail_depth, items_depth, IsTerm, IsSound, AreSound, AreBytes, AreScalars}
+use Rattle.term_core.specs.Limits.{tail_depth, items_depth, IsTerm, IsSound, AreSound, AreBytes}
 use Rattle.term_core.specs.Term.{tail_of, IsTail, IsList}
 use Rattle.term_core.specs.TermFalls.{depth-cells, tail_depth-cells}
 use Rattle.term_core.specs.Fault.{IsFault, IsTooLong}
 use Rattle.term_core.specs.declared.fault.Fault.{Fault}
 use Rattle.term_core.specs.declared.fault.Fault.TheVariants.{Memory, TooDeep, TooLong, DuplicateKey}
-use Rattle.term_core.specs.declared.TheConstants.{MAX_DEPTH, MAX_CHARACTERS, MAX_TUPLE, MAX_LIST, MAX_BINARY}
+use Rattle.term_core.specs.declared.TheConstants.{MAX_DEPTH, MAX_TUPLE, MAX_LIST, MAX_BINARY}
 
 -- numbers of which each is below 256 are bytes
 pub AreBytes-each : (bs : List ℕ) → ((i : ℕ) → get_or bs i 0 < 256) → AreBytes bs
@@ -35,12 +35,6 @@ pub tuple-IsTerm : (ds items : List Datum) → ds ≡ items → items_depth (ite
 tuple-IsTerm ds items same shallow short sound =
     let P : List Datum → Type 0 = λ xs. IsTerm (tuple (items_of xs)) in
     subst P same (record { sound = (omega (arith, item_count-items_of ds), sound); shallow = omega arith })
-
--- a short enough row of characters makes an atom
-pub atom-IsTerm : (cs items : List ℕ) → cs ≡ items → length cs ≤ MAX_CHARACTERS → AreScalars cs → IsTerm (atom items)
-atom-IsTerm cs items same short scalars =
-    let P : List ℕ → Type 0 = λ xs. IsTerm (atom xs) in
-    subst P same (record { sound = (short, scalars); shallow = omega arith })
 
 -- the length of a list is the number of its elements and of those of its tail
 pub cell_count-cells : (ds : List Datum) (tail : Datum) → cell_count (cells ds tail) ≡ length ds + cell_count tail

@@ -1,9 +1,7 @@
 -- Two texts are equal exactly if their characters are.
 use Rattle.std.proofs.Common.{◌≡◌, ℕ, zero, suc, ◌<◌, ◌⊎◌, inl, inr, List, [], ◌∷◌, Bool, true, false, sym, ap, ◌∙◌, arith}
 use Rattle.std.specs.Str.{chars, encode_utf8_all, IsUtf8, IsAscii, bytes_eq}
-use Rattle.std.specs.Prelude.{nat_lt}
-use Rattle.std.specs.List.{list_all}
-use Rattle.std.proofs.lemmas.Bool.{cases_Bool, and_parts, ltb-true}
+use Rattle.std.proofs.lemmas.Bool.{cases_Bool}
 use Rattle.std.proofs.lemmas.Bool.Decides.{same_from_decides, Decides-like}
 use Rattle.std.proofs.lemmas.Slice.Eq.{bytes_eq-Decides}
 use Rattle.std.proofs.lemmas.Str.{encodes-chars, encodes_same, chars-IsAscii, encodes-IsAscii}
@@ -26,22 +24,6 @@ ascii-nil i = omega arith
 pub ascii-cons : (b : ℕ) (bs : List ℕ) → b < 128 → IsAscii bs → IsAscii (b ∷ bs)
 ascii-cons b bs small rest zero = small
 ascii-cons b bs small rest (suc i) = rest i
-
--- a list of numbers below 128 is ASCII
-ascii-all : (bs : List ℕ) → list_all (λ b. nat_lt b 128) bs ≡ true → IsAscii bs
-ascii-all [] small = ascii-nil
-ascii-all (b ∷ bs) small =
-    let parts = and_parts (nat_lt b 128) (list_all (λ b. nat_lt b 128) bs) small in
-    ascii-cons b bs (ltb-true b 128 parts.0) (ascii-all bs parts.1)
-
--- a text is equal to an ASCII one exactly if its characters are
-pub is_ascii_text : (t name : List ℕ) → IsUtf8 t → list_all (λ b. nat_lt b 128) name ≡ true → bytes_eq t name ≡ bytes_eq (chars t) name
-is_ascii_text t name t_is small = ascii_eq t name t_is (encodes-IsAscii name (ascii-all name small))
-
-pub ascii_text_is : (t name : List ℕ) → IsUtf8 t → list_all (λ b. nat_lt b 128) name ≡ true → bytes_eq name t ≡ bytes_eq name (chars t)
-ascii_text_is t name t_is small =
-    same_from_decides (bytes_eq name t) (bytes_eq name (chars t)) (bytes_eq-Decides name t)
-    (Decides-like (bytes_eq name (chars t)) (λ (e : name ≡ chars t). sym (encodes-IsAscii name (ascii-all name small)) ∙ ap encode_utf8_all e ∙ encodes-chars t t_is) (λ (e : name ≡ t). sym (chars-IsAscii name (ascii-all name small)) ∙ ap chars e) (bytes_eq-Decides name (chars t)))
 
 -- what is the same of all texts but some ASCII ones is the same of a text's bytes and of its characters
 pub alike_beyond : {X : Type 0} (f : List ℕ → X) (other : X) → ((bs : List ℕ) → (f bs ≡ other) ⊎ IsAscii bs) → (t : List ℕ) → IsUtf8 t → f t ≡ f (chars t)

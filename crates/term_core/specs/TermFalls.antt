@@ -78,6 +78,8 @@ parts_fall G (shape.TupleOfOne d b) h = let e = items_fall b.value in omega arit
 parts_fall G (shape.TupleOfTwo d b) h = let e = items_fall b.value in omega arith
 parts_fall G (shape.TupleOfThree d b) h = let e = items_fall b.value in omega arith
 parts_fall G (shape.TupleOfFour d b) h = let e = items_fall b.value in omega arith
+parts_fall G (shape.TupleOfFive d b) h = let e = items_fall b.value in omega arith
+parts_fall G (shape.TupleOfSix d b) h = let e = items_fall b.value in omega arith
 parts_fall G (shape.Tuple d b) h = let e = items_fall b.value.items in omega arith
 parts_fall G (shape.ListOfOne d b) h = let e = items_fall b.value in omega (arith, depth-cells b.value nil h.1)
 parts_fall G (shape.ListOfTwo d b) h = let e = items_fall b.value in omega (arith, depth-cells b.value nil h.1)

@@ -1,7 +1,7 @@
 //! The type of terms, and how terms are made and read.
 ghost use Rattle.std.specs.Prelude.{◌≡◌, ◌<◌, ◌≤◌, ◌++◌, ◌∷◌, [], None, Some, length, take, IfOk, IfErr, IfSome, IsSome, OnOk};
 ghost use Rattle.std.specs.Option.{option_copied};
-ghost use Rattle.term_core.specs.Datum.{items_of, cells as cells_of, cell_count};
+ghost use Rattle.term_core.specs.Datum.{items_of, cells as cells_of, cell_count, IsNoList};
 ghost use Rattle.term_core.specs.Datum.Datum.{nil};
 ghost use Rattle.term_core.specs.Term.{tail_of, datum_of, few_items, IsTail, IsList, IsKept, IsFew};
 ghost use Rattle.term_core.specs.ListParts.{HandsBack};
@@ -18,7 +18,9 @@ use std::slice;
 use std::sync::Arc;
 
 mod binary;
+mod blocks;
 mod bytes;
+mod copies;
 mod copy;
 mod map;
 mod pairs;
@@ -27,6 +29,7 @@ mod same;
 mod short_row;
 mod text;
 
+use blocks::{proper_shape, tuple_shape};
 use bytes::{front, front_text};
 pub use pairs::neighbours_differ;
 use rest::{behind, prepended_to_rest};
@@ -77,6 +80,8 @@ enum Shape<A: Allocator> {
     TupleOfTwo(u8, Arc<[Term<A>; 2], A>),
     TupleOfThree(u8, Arc<[Term<A>; 3], A>),
     TupleOfFour(u8, Arc<[Term<A>; 4], A>),
+    TupleOfFive(u8, Arc<[Term<A>; 5], A>),
+    TupleOfSix(u8, Arc<[Term<A>; 6], A>),
     Tuple(u8, Arc<Vec<Term<A>, A>, A>),
     ListOfOne(u8, Arc<[Term<A>; 1], A>),
     ListOfTwo(u8, Arc<[Term<A>; 2], A>),
@@ -231,21 +236,39 @@ fn list_depth<A: Allocator>(elements: &[Term<A>], tail: &Option<Term<A>>) -> Res
     Ok(deepest + 1)
 }
 
+/// Makes the list of these elements, at least one, and `[]`. The list is within the limits.
+fn without_tail<A: Allocator>(
+    alloc: A,
+    depth: u8,
+    elements: Vec<Term<A>, A>,
+) -> Result<Term<A>, Refused<Vec<Term<A>, A>>>
+    requires some { 0 < length elements.items }
+    requires depth { depth ≡ depth_of (cells_of elements.items nil) }
+    requires within { IsTerm (cells_of elements.items nil) }
+    ensures ok { IfOk result (λ t. t ≡ cells_of elements.items nil) }
+    ensures refused { IfErr result (λ r. (r.value.items ≡ elements.items)
+        × (r.fault ≡ Fault.Memory)) }
+{
+    let shape = proper_shape(alloc, depth, elements)?;
+    Ok(Term { shape })
+}
+
 /// Makes the list of these elements, at least one, and a tail that is not a list. The list is within the limits.
 fn with_tail<A: Allocator>(
     alloc: A,
     depth: u8,
     elements: Vec<Term<A>, A>,
-    tail: Option<Term<A>>,
+    tail: Term<A>,
 ) -> Result<Term<A>, Refused<ListParts<A>>>
     requires some { 0 < length elements.items }
-    requires tail { IsTail tail }
-    requires within { IsTerm (cells_of elements.items (tail_of tail)) }
-    requires depth { depth ≡ depth_of (cells_of elements.items (tail_of tail)) }
-    ensures ok { IfOk result (λ t. t ≡ cells_of elements.items (tail_of tail)) }
-    ensures refused { IfErr result (λ r. HandsBack r.value elements.items tail
+    requires tail { IsNoList tail }
+    requires within { IsTerm (cells_of elements.items tail) }
+    requires depth { depth ≡ depth_of (cells_of elements.items tail) }
+    ensures ok { IfOk result (λ t. t ≡ cells_of elements.items tail) }
+    ensures refused { IfErr result (λ r. HandsBack r.value elements.items (Some tail)
         × (r.fault ≡ Fault.Memory)) }
 {
+    let tail = Some(tail);
     match shared(alloc, Cells { elements, tail }) {
         Ok(cells) => Ok(Term {
             shape: Shape::List(depth, cells),
@@ -457,7 +480,7 @@ fn joined<A: Allocator>(
         Shape::Rest(kept, count, cells) => {
             prepended_to_rest(alloc, depth, elements, kept, count, cells)
         }
-        shape => with_tail(alloc, depth, elements, Some(Term { shape })),
+        shape => with_tail(alloc, depth, elements, Term { shape }),
     }
 }
 
@@ -476,7 +499,20 @@ fn joined_to<A: Allocator>(
 {
     match tail {
         Some(tail) => joined(alloc, depth, elements, tail.into_shape()),
-        None => with_tail(alloc, depth, elements, None),
+        None => match without_tail(alloc, depth, elements) {
+            Ok(list) => Ok(list),
+            Err(refused) => {
+                let Refused {
+                    value: elements,
+                    fault,
+                } = refused;
+                let tail = None;
+                Err(Refused {
+                    value: ListParts { elements, tail },
+                    fault,
+                })
+            }
+        },
     }
 }
 
@@ -494,11 +530,13 @@ fn with_nil<A: Allocator>(
     ensures refused { IfErr result (λ r. HandsBack r.value elements.items (Some nil)
         × (r.fault ≡ Fault.Memory)) }
 {
-    match with_tail(alloc, depth, elements, None) {
+    match without_tail(alloc, depth, elements) {
         Ok(list) => Ok(list),
         Err(refused) => {
-            let Refused { value, fault } = refused;
-            let ListParts { elements, tail: _ } = value;
+            let Refused {
+                value: elements,
+                fault,
+            } = refused;
             let tail = Some(Term::nil());
             Err(Refused {
                 value: ListParts { elements, tail },
@@ -569,10 +607,8 @@ impl<A: Allocator> Term<A> {
                 fault: Fault::TooLong,
             });
         }
-        let elements = shared(alloc, elements)?;
-        Ok(Term {
-            shape: Shape::Tuple(deepest + 1, elements),
-        })
+        let shape = tuple_shape(alloc, deepest + 1, elements)?;
+        Ok(Term { shape })
     }
 
     /// Makes the list of these elements followed by a tail. The elements of a tail that is a list become elements of
@@ -614,6 +650,7 @@ impl<A: Allocator> Term<A> {
             Shape::LargeBinary(_, _) | Shape::Binary(_) => 1,
             Shape::TupleOfOne(depth, _) | Shape::TupleOfTwo(depth, _) => *depth,
             Shape::TupleOfThree(depth, _) | Shape::TupleOfFour(depth, _) => *depth,
+            Shape::TupleOfFive(depth, _) | Shape::TupleOfSix(depth, _) => *depth,
             Shape::ListOfOne(depth, _) | Shape::ListOfTwo(depth, _) => *depth,
             Shape::ListOfThree(depth, _) | Shape::ListOfFour(depth, _) => *depth,
             Shape::MapOfOne(depth, _) => *depth,
@@ -642,6 +679,8 @@ impl<A: Allocator> Term<A> {
             Shape::TupleOfTwo(_, elements) => View::Tuple(&elements[..]),
             Shape::TupleOfThree(_, elements) => View::Tuple(&elements[..]),
             Shape::TupleOfFour(_, elements) => View::Tuple(&elements[..]),
+            Shape::TupleOfFive(_, elements) => View::Tuple(&elements[..]),
+            Shape::TupleOfSix(_, elements) => View::Tuple(&elements[..]),
             Shape::Tuple(_, elements) => View::Tuple(elements.as_slice()),
             Shape::ListOfOne(_, elements) => View::List(&elements[..], None),
             Shape::ListOfTwo(_, elements) => View::List(&elements[..], None),

@@ -1,11 +1,8 @@
 -- Lists with elements, as views show them.
-use Rattle.std.proofs.Common.{◌≡◌, ◌<◌, ◌≤◌, List, [], ◌∷◌, length, drop, get_or, None, refl, arith}
+use Rattle.std.proofs.Common.{◌≡◌, ◌<◌, ◌≤◌, List, [], ◌∷◌, length, get_or, None, refl, arith}
 use Rattle.term_core.specs.Datum.{Datum, cells}
 use Rattle.term_core.specs.Datum.Datum.{cons, nil}
-use Rattle.term_core.specs.View.{shown, IsSplit}
-use Rattle.term_core.specs.declared.view.View.{View}
 use Rattle.term_core.specs.declared.view.View.TheVariants as view
-use Rattle.term_operand.specs.View.{seen}
 use Rattle.term_operand.specs.Operand.{IsNoTuple, integer_of}
 
 pub no_tuple : (elements : List Datum) (tail : Datum) → 0 < length elements → IsNoTuple (cells elements tail)
@@ -15,21 +12,6 @@ no_tuple (d ∷ ds) tail some = tt
 pub no_number : (elements : List Datum) (tail : Datum) → 0 < length elements → None ≡ integer_of (cells elements tail)
 no_number [] tail some = absurd (omega arith)
 no_number (d ∷ ds) tail some = refl
-
--- a list put together from its first element and its rest is the list
-first_cell : (elements : List Datum) (tail : Datum) → 0 < length elements → cons (get_or elements 0 nil) (cells (drop 1 elements) tail) ≡ cells elements tail
-first_cell [] tail some = absurd (omega arith)
-first_cell (d ∷ ds) tail some = refl
-
--- the two definitions of what a view shows agree
-pub seen-shown : {A : Type 0} (v : View A) → IsSplit v → seen v ≡ shown v
-seen-shown (view.Integer z) split = refl
-seen-shown (view.Atom cs) split = refl
-seen-shown (view.Tuple ds) split = refl
-seen-shown view.Nil split = refl
-seen-shown (view.List ds tail) split = first_cell ds.now _ split.0
-seen-shown (view.Map es) split = refl
-seen-shown (view.Binary bs) split = refl
 
 -- the first element of a row, whatever the default for a missing one
 pub first_element : (elements : List Datum) (head other : Datum) → 1 ≤ length elements → head ≡ get_or elements 0 other → head ≡ get_or elements 0 nil

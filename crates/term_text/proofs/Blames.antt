@@ -208,20 +208,6 @@ integer_begun (digit d) = inl d
 integer_begun (sign (inl p) d) = inr (rw p refl, d)
 integer_begun (sign (inr m) d) = inr (rw m refl, d)
 
-integer_some : {text : List ℕ} → BeginsInteger text → 0 < length text
-integer_some (digit d) = omega arith
-integer_some (sign s d) = omega arith
-
-pub term_some : {text : List ℕ} → BeginsTerm text → 0 < length text
-term_some (begins_term.an_integer i) = integer_some i
-term_some (begins_term.a_word l) = omega arith
-term_some begins_term.an_atom = omega arith
-term_some begins_term.a_string = omega arith
-term_some begins_term.a_tuple = omega arith
-term_some begins_term.a_list = omega arith
-term_some begins_term.a_map = omega arith
-term_some begins_term.a_binary = omega arith
-
 -- a term that begins is found to begin
 pub opens_none : (text : List ℕ) → opening text ≡ None → ¬ BeginsTerm text
 opens_none text e (begins_term.an_integer i) = absurd (let some = opening_integer text (integer_begun i) in cc)

@@ -1,8 +1,7 @@
 -- From characters to bytes.
-use Rattle.std.proofs.Common.{◌≡◌, ◌++◌, ℕ, ◌≤◌, List, length, take, drop, Result, Ok, refl, sym, ap, ◌∙◌, arith}
-use Rattle.std.specs.Str.{encode_utf8_all, IsUtf8, IsValidUpTo, chars}
-use Rattle.std.proofs.lemmas.Str.{encodes-append, utf8_valid_len-IsValidUpTo, utf8_valid_len-IsUtf8}
-use Rattle.std.proofs.lemmas.List.{take-append-drop, length-append}
+use Rattle.std.proofs.Common.{◌≡◌, ◌++◌, ℕ, ◌≤◌, List, Result, Ok, refl, sym, ap, ◌∙◌, arith}
+use Rattle.std.specs.Str.{IsUtf8, IsValidUpTo, chars}
+use Rattle.std.proofs.lemmas.Str.{utf8_valid_len-IsValidUpTo, utf8_valid_len-IsUtf8}
 use Rattle.term_core.specs.Datum.{Datum}
 use Rattle.term_text.specs.Text.{Spells}
 use Rattle.term_text.specs.Fault.{fault_of}
@@ -14,12 +13,6 @@ use Rattle.term_text.specs.TokenReading.{Fault, Fails}
 use Rattle.term_text.specs.Reading.{text_at}
 use Rattle.term_text.proofs.Steps.{holds_at}
 use Rattle.term_text.proofs.Texts.{text_holds, text_again}
-
-pub fewer_bytes : (k : ℕ) (cs : List ℕ) → length (encode_utf8_all (take k cs)) ≤ length (encode_utf8_all cs)
-fewer_bytes k cs =
-    let joined : encode_utf8_all (take k cs) ++ encode_utf8_all (drop k cs) ≡ encode_utf8_all cs = sym (encodes-append (take k cs) (drop k cs)) ∙ ap encode_utf8_all (take-append-drop k cs) in
-    let len = ap length joined in
-    omega (arith, length-append (encode_utf8_all (take k cs)) (encode_utf8_all (drop k cs)))
 
 pub read_is_spelled : (bytes text : List ℕ) (ds : List Datum) → IsUtf8 bytes → text ≡ chars bytes → text_at text ≡ Ok ds → Spells bytes ds
 read_is_spelled bytes text ds u c e = record { utf8 = u; sentences = rw c at (holds_at _ (text_at text) ds (text_holds text) e) }

@@ -35,9 +35,6 @@ dot_holds (c ∷ cs) =
     if_holds (λ (rest : List ℕ). (c ∷ cs ≡ dot ∷ rest) × BeginsGap rest) (c == dot && begins_gap cs) _ _
     (λ e. let p = and_parts (c == dot) (begins_gap cs) e in (ap (λ (x : ℕ). x ∷ cs) (eqb-true c dot p.0), begins_at cs p.1)) (λ _. tt)
 
-dot_again : (rest : List ℕ) → BeginsGap rest → dot_at (dot ∷ rest) ≡ Ok rest
-dot_again rest h = rw (begins_from rest h) refl
-
 -- a term and its dot were read
 pub record SentenceRead (text : List ℕ) (d : Datum) (rest : List ℕ) : Type 0 where
   pub behind : List ℕ

@@ -182,7 +182,3 @@ mutual
     | inl e ↦ rw (eq-eqb c line_feed e) (behind_ended c text _ e (gap_holds text))
     | inr n ↦ rw (ne_eqb c line_feed n) (behind_passed c text _ n (comment_holds text))
   ]
-
--- if a character follows, the gap ends before it
-pub gap_to : (text rest : List ℕ) (c : ℕ) → Behind text (c ∷ rest) → Gap text (c ∷ rest)
-gap_to text rest c (something g) = g

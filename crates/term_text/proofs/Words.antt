@@ -1,8 +1,8 @@
 -- Integers, bare words, and what a term begins with.
-use Rattle.std.proofs.Common.{◌≡◌, ℕ, suc, ◌+◌, ◌*◌, ◌≤◌, ◌<◌, ◌⊎◌, inl, inr, Bool, true, false, cond, List, [], ◌∷◌, ◌++◌, length, take, drop, Option, Some, None, Ok, Err, ℤ, refl, sym, ap, ◌∙◌, append_assoc, arith, one-add}
+use Rattle.std.proofs.Common.{◌≡◌, ℕ, suc, ◌+◌, ◌*◌, ◌≤◌, ◌<◌, ◌⊎◌, inl, inr, Bool, true, false, cond, List, [], ◌∷◌, ◌++◌, length, take, drop, Option, Some, None, Ok, Err, ℤ, refl, sym, ap, ◌∙◌, arith, one-add}
 use Rattle.std.specs.Prelude.{IfOk, IfSome, ◌==◌, nat_lt}
 use Rattle.std.proofs.lemmas.Bool.{eqb-true, leb-true, ltb-false, le-leb, le-ltb, lt-ltb, cases_Bool}
-use Rattle.std.proofs.lemmas.List.{take_at, drop_at, length-append}
+use Rattle.std.proofs.lemmas.List.{take_at, drop_at}
 use Rattle.std.proofs.lemmas.List.Folds.{length-prefix_len}
 use Rattle.std.specs.List.{AllByRecursion, prefix_len}
 use Rattle.std.specs.Option.{option_map}
@@ -109,9 +109,6 @@ pub unsigned_sign : (text : List ℕ) → begins is_ascii_digit text ≡ true �
 unsigned_sign [] b = absurd cc
 unsigned_sign (c ∷ cs) b = let d = digit_no_sign c b in rw (d.0, d.1) refl
 
-fits_pos : (n : ℕ) → n ≤ 9223372036854775807 → fits false n ≡ true
-fits_pos n h = le-leb _ _ h
-
 pub integer_again : {text rest : List ℕ} {z : ℤ} → Integer text z rest → integer_at text ≡ Ok (z, rest)
 unfolding integer_at
 integer_again (unsigned {text} {rest} {n} h l) = rw (unsigned_sign text (number_begins h), number_again h, le-leb _ _ l) refl
@@ -137,19 +134,9 @@ pub record WordSoFar (text cs rest : List ℕ) : Type 0 where
   pub each : AllByRecursion (λ c. is_word c ≡ true) cs
   pub few : length cs ≤ MAX_CHARACTERS
 
-pub word_begins : (text : List ℕ) → WordSoFar text [] text
-word_begins text = record { whole = refl; each = tt; few = omega arith }
-
 pub each_more : (cs : List ℕ) (c : ℕ) → AllByRecursion (λ c. is_word c ≡ true) cs → is_word c ≡ true → AllByRecursion (λ c. is_word c ≡ true) (cs ++ c ∷ [])
 each_more [] c all here = (here, tt)
 each_more (d ∷ cs) c all here = (all.0, each_more cs c all.1 here)
-
-pub word_goes_on : (text cs rest : List ℕ) (c : ℕ) (behind : List ℕ) → WordSoFar text cs rest → rest ≡ c ∷ behind → is_word c ≡ true → length cs < MAX_CHARACTERS → WordSoFar text (cs ++ c ∷ []) behind
-word_goes_on text cs rest c behind w e here room = record {
-  whole = w.whole ∙ ap (λ (r : List ℕ). cs ++ r) e ∙ sym (append_assoc cs (c ∷ []) behind);
-  each = each_more cs c w.each here;
-  few = let len = length-append cs (c ∷ []) in omega arith;
-}
 
 pub word_ends : (text cs rest : List ℕ) → WordSoFar text cs rest → EndsRun is_word rest → word_at text ≡ Ok (cs, rest)
 word_ends text cs rest w ended = word_again (record { whole = w.whole; each = w.each; ended = ended }) w.few

@@ -30,7 +30,7 @@ use Rattle.term_text.specs.Text.Spelled.{an_integer, a_word, a_quoted_atom, a_st
 use Rattle.term_text.specs.Text.Elements.{last, more as more_elements}
 use Rattle.term_text.specs.Text.Pair.{arrow}
 use Rattle.term_text.specs.Text.Pairs.{last_pair, more_pairs}
-use Rattle.term_text.specs.Tokens.{EndsRun, Run, Number, Integer, Quoted}
+use Rattle.term_text.specs.Tokens.{EndsRun, Number, Integer, Quoted}
 use Rattle.term_text.specs.Tokens.Integer.{unsigned, negative}
 use Rattle.term_text.specs.Tokens.Quoted.{closed, plain, escape}
 use Rattle.term_text.specs.declared.write.Form.{Form}
@@ -89,9 +89,6 @@ small_word c h = grind arith
 words : (cs : List ℕ) → are_word cs ≡ true → AllByRecursion (λ c. is_word c ≡ true) cs
 words [] h = tt
 words (c ∷ cs) h = let p = and_parts (is_word c) (are_word cs) h in (p.0, words cs p.1)
-
-pub word_written : (cs rest : List ℕ) → are_word cs ≡ true → EndsRun is_word rest → Run is_word (cs ++ rest) cs rest
-word_written cs rest h e = record { whole = refl; each = words cs h; ended = e }
 
 -- a mark that an escape can stand for
 abbrev IsMark : ℕ → Type 0

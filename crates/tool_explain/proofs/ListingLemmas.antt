@@ -2,7 +2,6 @@
 use Rattle.std.proofs.Common.{◌≡◌, ◌∙◌, ℕ, suc, ◌+◌, ◌<◌, ◌≤◌, List, [], ◌∷◌, ◌++◌, length, drop, get_or, sym, ap, append_assoc}
 use Rattle.std.proofs.Math.Numerals.{add-one}
 use Rattle.std.proofs.Math.Seq.{drop-cons}
-use Rattle.std.proofs.lemmas.List.{append-nil, drop_all}
 use Rattle.tool_explain.specs.Listing.{numbered}
 
 -- two texts appended one after the other
@@ -18,10 +17,3 @@ numbered_next text xs place n next x lines more whole there is after now put =
     let split : drop place xs ≡ x ∷ rest = drop-cons xs place x there ∙ ap (λ y. y ∷ rest) (sym is) in
     let step : numbered text n (drop place xs) ≡ text n x ++ numbered text (suc n) rest = ap (numbered text n) split in
     rw (put, after, add-one place) (append_assoc lines (text n x) (numbered text (suc n) rest) ∙ ap (λ l. lines ++ l) (sym step) ∙ now)
-
--- the texts of all numbered things are appended
-pub numbered_all : {X : Type 0} (text : ℕ → X → List ℕ) (xs : List X) (place n : ℕ) (lines whole : List ℕ) → length xs ≤ place
-    → lines ++ numbered text n (drop place xs) ≡ whole → lines ≡ whole
-numbered_all text xs place n lines whole over now =
-    let none : numbered text n (drop place xs) ≡ [] = ap (numbered text n) (drop_all place xs over) in
-    sym (ap (λ l. lines ++ l) none ∙ append-nil lines) ∙ now

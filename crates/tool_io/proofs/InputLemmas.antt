@@ -2,12 +2,6 @@
 use Rattle.std.proofs.Common.{◌≡◌, ℕ, ◌+◌, ◌-◌, ◌*◌, ◌<◌, ◌≤◌, arith}
 use Rattle.std.proofs.Math.Nat.{mul-le-mul_left}
 
--- one more read adds at most `size` bytes
-pub reads-more : (size reads old new room : ℕ) → room ≡ size → old ≤ size * reads → new ≤ old + room → new ≤ size * (reads + 1)
-reads-more size reads old new room full bounded grown =
-    let next : size * (reads + 1) ≡ size * reads + size = omega arith in
-    omega arith
-
 -- the bound for fewer reads than the limit
 pub reads-within : (size reads limit length : ℕ) → reads < limit → length ≤ size * reads → length ≤ size * (limit - 1)
 reads-within size reads limit length below bounded =

@@ -23,10 +23,8 @@ use Rattle.mspec_syntax.specs.declared.fault.SpecFault.TheVariants as specificat
 use Rattle.mspec_meaning.specs.Meaning.{Means}
 use Rattle.compiler_assembly.proofs.StandLemmas.{assembled_alone}
 use Rattle.compiler_clauses.specs.Clauses.{code_of}
-use Rattle.code_file.specs.Faults.{IsNoFile}
 use Rattle.code_writer.specs.File.{HasFile, IsUpTo, Spells, plain_opcode}
 use Rattle.code_writer.specs.Laws.{OneCode}
-use Rattle.code_file.specs.declared.fault.FileFault.{FileFault}
 use Rattle.code_file.specs.declared.fault.FileFault.TheVariants as file
 use Rattle.machine_bodies.specs.Laws.{RunsEndWithTheAnswer}
 use Rattle.verifier.specs.Faults.{IsFirstFault}
@@ -39,7 +37,7 @@ use Rattle.tool_io.specs.declared.fault.ToolFault.{ToolFault}
 use Rattle.tool_io.specs.declared.fault.ToolFault.TheVariants as fault
 use Rattle.tool_query.specs.Code.{IsFileOf, IsNoBinary}
 use Rattle.tool_query.specs.Query.{Query, Answers, IsRead, IsQuery, IsLoaded, IsNoSpecification, IsUnloaded, IsNoQuery}
-use Rattle.tool_io.specs.Wrapped.{of_specification, of_file, of_code}
+use Rattle.tool_io.specs.Wrapped.{of_specification, of_code}
 
 -- ---- faults of lower crates as those of the program
 
@@ -56,16 +54,6 @@ no_specification d (specification.BadVariableName n) h = ((λ e. absurd (cc)), h
 no_specification d (specification.BadExpression n) h = ((λ e. absurd (cc)), h)
 no_specification d (specification.VariableInMapKey n) h = ((λ e. absurd (cc)), h)
 no_specification d specification.TooLarge h = ((λ e. absurd (cc)), h)
-
-pub no_file : (bytes : List ℕ) (f : FileFault) → (f ≢ file.Memory → IsNoFile bytes f) → IsUnloaded bytes (of_file f)
-no_file bytes file.Memory h = tt
-no_file bytes file.BadMagic h = let other : file.BadMagic ≢ file.Memory = λ e. absurd (cc) in (other, h other)
-no_file bytes file.BadVersion h = let other : file.BadVersion ≢ file.Memory = λ e. absurd (cc) in (other, h other)
-no_file bytes (file.Truncated at) h = let other : file.Truncated at ≢ file.Memory = λ e. absurd (cc) in (other, h other)
-no_file bytes (file.BadOpcode at) h = let other : file.BadOpcode at ≢ file.Memory = λ e. absurd (cc) in (other, h other)
-no_file bytes (file.NotCanonical at) h = let other : file.NotCanonical at ≢ file.Memory = λ e. absurd (cc) in (other, h other)
-no_file bytes (file.Trailing at) h = let other : file.Trailing at ≢ file.Memory = λ e. absurd (cc) in (other, h other)
-no_file bytes file.Limit h = let other : file.Limit ≢ file.Memory = λ e. absurd (cc) in (other, h other)
 
 first_fault : (f : code_fault.Fault) (b : ℕ) (p : Program) → f ≢ code.Memory → (f ≡ code.Memory) ⊎ IsFirstFault p b f → IsFirstFault p b f
 first_fault f b p other (inl memory) = absurd (other memory)

@@ -1,7 +1,6 @@
 -- What is known of terms, as what is known of an input.
 use Rattle.std.proofs.Common.{◌≡◌, ◌<◌, inl, inr, ℕ, ◌-◌, Option, Some, None, List, [], ◌∷◌, length, refl, sym, ap, ◌∙◌, get_or, drop, take, arith}
 use Rattle.std.proofs.lemmas.List.{take_all}
-use Rattle.std.specs.Prelude.{IfSome}
 use Rattle.std.specs.Str.{IsUtf8, chars}
 use Rattle.std.specs.Io.KnownBytes.{Keeps, Appends}
 use Rattle.term_core.specs.Datum.{Datum}
@@ -30,13 +29,6 @@ of_terms known terms P h p = (h.0, h.1, (terms, h.2, p))
 -- there are no terms, so nothing is written
 pub unread : (known old : Option (List ℕ)) (f : ToolFault) (Stopped : List Datum → Type 0) → OfInput known (λ input. IsUnread input f) → Stops known old old f Stopped
 unread known old f Stopped h = inl (h, kept old)
-
--- what is true of the terms of an input that was read whole is true of the terms that the reader gave
-pub of_its_terms : (known : Option (List ℕ)) (input : List ℕ) (P : List Datum → Type 0) → IfSome known (λ bytes. input ≡ bytes) → OfItsTerms input P → OfTerms known P
-of_its_terms known input P is t = (input, is, t)
-
-pub stops_at : (known old new : Option (List ℕ)) (input : List ℕ) (f : ToolFault) (Stopped : List Datum → Type 0) → IfSome known (λ bytes. input ≡ bytes) → StopsAt input old new f Stopped → Stops known old new f Stopped
-stops_at known old new input f Stopped is h = elim h [ inl none ↦ inl ((input, is, none.0), none.1) | inr t ↦ inr (input, is, t) ]
 
 -- ---- a query and objects
 

@@ -10,7 +10,7 @@ use Rattle.verifier_types.specs.Shape.{Shape}
 use Rattle.verifier_types.specs.Effect.{left_shape}
 use Rattle.verifier_types.specs.Inner.{inner_depth}
 use Rattle.verifier_types.specs.Fit.{IsFrameFit}
-use Rattle.verifier.specs.Typing.{AreTypedBelow, IsOwnDepth, IsBodyDepth, falling_into}
+use Rattle.verifier.specs.Typing.{AreTypedBelow, IsBodyDepth, falling_into}
 use Rattle.verifier_types.specs.Faults.{IsFaultIn}
 use Rattle.verifier.specs.Faults.{IsBodyFault, IsFirstUntyped, IsFirstUnfit}
 use Rattle.verifier.specs.Pass.{begun}
@@ -44,19 +44,6 @@ no_less p ds n m a b =
 
 pub body_depth_once : (p : Program) (ds : List ℕ) (n m : ℕ) → IsBodyDepth p ds n → IsBodyDepth p ds m → n ≡ m
 body_depth_once p ds n m a b = let up = no_less p ds n m a b in let down = no_less p ds m n b a in omega (arith, up, down)
-
-own_no_less : (p : Program) (n m : ℕ) → IsOwnDepth p n → IsOwnDepth p m → n ≤ m
-own_no_less p n m a b =
-    let pc = a.most.reached.0 in
-    let i = a.most.reached.1 in
-    let here = a.most.reached.2 in
-    let inside = slice_get_within p.instructions pc i here in
-    let same = shapes_once p a.depths b.depths a.shapes b.shapes (length p.instructions) (length p.instructions) pc i a.typing.each b.typing.each inside inside here in
-    let IsAt : Shape → Type 0 = λ s. (n ≡ length s.kinds) ⊎ (n ≡ length (left_shape p i s).kinds) in
-    b.most.greatest pc i n here (subst IsAt same a.most.reached.3)
-
-pub own_depth_once : (p : Program) (n m : ℕ) → IsOwnDepth p n → IsOwnDepth p m → n ≡ m
-own_depth_once p n m a b = let up = own_no_less p n m a b in let down = own_no_less p m n b a in omega (arith, up, down)
 
 -- ---- a whole body
 

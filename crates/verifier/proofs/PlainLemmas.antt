@@ -1,8 +1,8 @@
 -- Code without routines is typed if its main body is: its budget is at most the number of its instructions.
-use Rattle.std.specs.Prelude.{ℕ, zero, suc, ◌≡◌, ◌+◌, ◌<◌, ◌≤◌, IsSome, false, reverse, Option, Some, None, List, [], ◌∷◌, length, replicate, set, slice_get, slice_index}
+use Rattle.std.specs.Prelude.{ℕ, zero, suc, ◌≡◌, ◌+◌, ◌<◌, ◌≤◌, IsSome, Option, Some, None, List, [], ◌∷◌, length, replicate, set, slice_get, slice_index}
 use Rattle.std.proofs.Common.{arith, refl, sym, ap, subst, inl, inr, get_or}
 use Rattle.std.proofs.lemmas.List.{length-replicate, get_or_past}
-use Rattle.std.proofs.lemmas.Option.{slice_get-get_or, slice_get_within}
+use Rattle.std.proofs.lemmas.Option.{slice_get-get_or}
 use Rattle.budget.specs.Paths.{IsBodyBudget, IsForward, IsCallForward, weight, weight_of, counted, most_budget}
 use Rattle.budget.specs.Pass.{AreLongest, onward_number}
 use Rattle.budget.proofs.PathLemmas.{path_fits}
@@ -11,11 +11,10 @@ use Rattle.budget.proofs.BodyLemmas.{budget_agrees}
 use Rattle.mcode.specs.Program.{Program, alone, body_of, routine_at}
 use Rattle.mcode.specs.declared.instr.Instr.{Instr}
 use Rattle.mcode.specs.declared.instr.Instr.TheVariants as instr
-use Rattle.verifier_types.specs.Shape.{Shape, start_shape}
-use Rattle.verifier_types.specs.Effect.{arguments_of}
+use Rattle.verifier_types.specs.Shape.{Shape}
 use Rattle.verifier_types.specs.Inner.{inner_depth}
 use Rattle.verifier_types.specs.Fit.{IsPlaced}
-use Rattle.verifier.specs.Typing.{entry_shape, HasShapes, IsGreatest, IsOwnDepthAt, IsDepthAt, IsOwnDepth, IsBodyDepth, IsDepth, IsTyped, IsPlain}
+use Rattle.verifier.specs.Typing.{HasShapes, IsGreatest, IsOwnDepthAt, IsDepthAt, IsBodyDepth, IsTyped, IsPlain}
 use Rattle.verifier.specs.Pass.{IsGreatestBelow}
 use Rattle.verifier.proofs.PassLemmas.{own_more}
 use Rattle.verifier.proofs.VerifiedLemmas.{own_all}
@@ -143,34 +142,6 @@ plain_typed p shapes plain =
     by (suc b) n low = omega (arith, get_or_past {X = ℕ} (n ∷ []) (suc b) 0 (omega arith))
 
 -- ---- what code without routines gets from its main body
-
--- the main body begins with nothing on the stack
-pub entry_main : (p : Program) → p.around.number ≡ 0 → entry_shape p ≡ start_shape p
-entry_main p main =
-    ap (λ n. record { kinds = reverse (arguments_of (routine_at p n)); bound = replicate p.slots false }) main
-
--- the states of the main body
-pub main_shapes : (p : Program) → (typed : IsTyped p) → (shapes : ℕ → Shape) × HasShapes p typed.depths shapes
-main_shapes p typed = typed.bodies 0 (omega arith)
-
--- the own depth of the main body is the depth of the code
-pub depth_own : (p : Program) (n : ℕ) → p.around ≡ alone → IsDepth p n → IsOwnDepth p n
-depth_own p n plain (ds, are, is) =
-    let body = are.each 0 (omega arith) (omega arith) in
-    rw is (record {
-      depths = ds;
-      shapes = body.shapes;
-      typing = body.typing;
-      most = record {
-        reached =
-            let at = body.most.reached in
-            (at.0, at.1, at.2, by body.shapes at.0 at.1 (slice_index ds 0) (placed body at.0 at.1 at.2) (λ m found. body.most.greatest at.0 at.1 m at.2 (inl found)) at.3);
-        greatest = λ pc i m here found. body.most.greatest pc i m here (inl found);
-      };
-    })
-  where
-    placed : {m : ℕ} → (body : IsBodyDepth p ds m) → (pc : ℕ) (i : Instr) → slice_get p.instructions pc ≡ Some i → IsPlaced p i
-    placed body pc i here = (body.typing.each pc i (slice_get_within p.instructions pc i here) here).typed.placed
 
     by : (shapes : ℕ → Shape) (pc : ℕ) (i : Instr) (m : ℕ) → IsPlaced p i → ((k : ℕ) → IsOwnDepthAt p shapes pc i k → k ≤ m) → IsDepthAt p ds shapes pc i m → IsOwnDepthAt p shapes pc i m
     by shapes pc i m at low (inl own) = own

@@ -1,7 +1,7 @@
 -- The state in which a routine begins.
 use Rattle.std.specs.Prelude.{ℕ, ◌≡◌, ◌+◌, ◌<◌, ◌≤◌, Bool, List, [], ◌∷◌, length, take, reverse}
 use Rattle.std.proofs.Common.{arith, sym, ap, ◌∙◌, get_or}
-use Rattle.std.proofs.lemmas.List.{take_more, take_all, length-take, length-reverse, reverse-append}
+use Rattle.std.proofs.lemmas.List.{take_more, length-take, length-reverse, reverse-append}
 use Rattle.mcode.specs.declared.kind.Kind.{Kind}
 use Rattle.verifier_types.specs.Shape.{Shape}
 
@@ -18,6 +18,3 @@ pushed_more ks bound n d s t inside is more =
 pub pushed_room : (ks : List Kind) (bound : List Bool) (n : ℕ) (s : Shape) → n < length ks → length ks ≤ 255 → s ≡ pushed ks bound n → length s.kinds + 1 < 65536
 pushed_room ks bound n s inside few is =
     omega (arith, inside, few, ap (λ u. length u.kinds) is, length-reverse (take n ks), length-take n ks)
-
-pub pushed_all : (ks : List Kind) (bound : List Bool) (n : ℕ) (s : Shape) → length ks ≤ n → s ≡ pushed ks bound n → s ≡ record { kinds = reverse ks; bound = bound }
-pushed_all ks bound n s whole is = is ∙ ap (λ js. record { kinds = reverse js; bound = bound }) (take_all n ks whole)

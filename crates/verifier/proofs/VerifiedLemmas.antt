@@ -14,11 +14,10 @@ use Rattle.mcode.specs.declared.instr.Instr.{Instr}
 use Rattle.mcode.specs.declared.instr.Instr.TheVariants as instr
 use Rattle.verifier_types.specs.Shape.{Shape}
 use Rattle.verifier_types.specs.Fit.{IsFrameFit}
-use Rattle.verifier.specs.Typing.{HasShapes, IsGreatest, IsOwnDepthAt, IsDepthAt, AreBodyDepths, AreTypedFrom, IsTyped}
+use Rattle.verifier.specs.Typing.{HasShapes, IsGreatest, IsOwnDepthAt, IsDepthAt, AreBodyDepths}
 use Rattle.verifier.specs.Pass.{shape_at, IsGreatestBelow, IsInnerAt, IsWalked}
 use Rattle.verifier.specs.Verified.{Table, IsTable, AreTables, IsFound, IsStart, IsKnown}
-use Rattle.verifier.specs.Faults.{IsFirstUnfit, IsBodyFault, IsBodyOver, IsFirstFault}
-use Rattle.verifier_types.specs.declared.fault.Fault.{Fault}
+use Rattle.verifier.specs.Faults.{IsFirstUnfit, IsBodyOver}
 use Rattle.verifier_types.specs.declared.fault.Fault.TheVariants as fault
 use Rattle.verifier_types.proofs.FrameLemmas.{frame_found}
 use Rattle.verifier.proofs.PassLemmas.{slice_get-front, slice_get-last}
@@ -199,23 +198,6 @@ module _ (p : Program) (b : ℕ) (ds bs : List ℕ) (table : Table) (d n : ℕ) 
         };
         few = few;
       }
-
--- a fault, if the bodies with higher numbers are typed
-pub first_here : (p : Program) (b : ℕ) (ds bs : List ℕ) (told : Fault) → b ≤ length p.around.routines → IsKnown p (b + 1) ds bs → IsBodyFault (body_of p b) ds told ⊎ IsBodyOver (body_of p b) ds bs told → IsFirstFault p b told
-first_here p b ds bs told inside known why =
-    let next : b + 1 ≡ suc b = omega arith in
-    record { depths = ds; budgets = bs; inside = inside; behind = subst (λ m. AreTypedFrom p m ds bs) next known.typed; why = why }
-
--- code is typed if all its bodies are known
-pub known_typed : (p : Program) (ds bs : List ℕ) → IsKnown p 0 ds bs → IsTyped p
-known_typed p ds bs known = record {
-  depths = ds;
-  budgets = bs;
-  bodies = λ b inside. known.typed.bodies b (omega arith) inside;
-  deep = known.typed.deep;
-  limits = known.typed.limits;
-  few = known.few;
-}
 
 -- ---- tables
 

@@ -33,11 +33,6 @@ pushed_for-top p instr.Dup [] = refl
 pushed_for-top p instr.Dup (k ∷ ks) = refl
 pushed_for-top p i ks = refl
 
--- for any instruction but DUP they do not depend on the kind at the top
-pub pushed_alike : (p : Program) (i : Instr) (top other : Option Kind) → i ≢ instr.Dup → pushed_for p i top ≡ pushed_for p i other
-pushed_alike p instr.Dup top other no_dup = absurd (no_dup refl)
-pushed_alike p i top other no_dup = refl
-
 pub left_is : (p : Program) (i : Instr) (s t u v : Shape) (n : ℕ) (top : Option Kind) (ks : List Kind) → n ≡ needs p i → top ≡ slice_get s.kinds 0 → ks ≡ pushed_for p i top → t ≡ record { kinds = drop n s.kinds; bound = s.bound } → u ≡ record { kinds = ks ++ t.kinds; bound = t.bound } → v ≡ record { kinds = u.kinds; bound = left_bound i u.bound } → v ≡ left_shape p i s
 left_is p i s t u v n top ks count first pushed popped more bound =
     let front : ks ≡ pushed_kinds p i s.kinds = pushed ∙ ap (pushed_for p i) first ∙ pushed_for-top p i s.kinds in

@@ -13,7 +13,7 @@ use Rattle.std.proofs.lemmas.List.Elements.{All-append}
 use Rattle.std.proofs.Math.Seq.{get_or-append_seam}
 use native.Mathlib.Numerals.{unary_clauses}
 use Rattle.verifier_types.specs.Shape.{Shape, place_kind, frame_kinds, is_bound, cut_shape, AreBelow, IsAtOrBelow}
-use Rattle.verifier_types.specs.Kept.{AreKept, AreListedAbove, IsReaching, kept_shape, popped_shape}
+use Rattle.verifier_types.specs.Kept.{AreKept, AreListedAbove, IsReaching, kept_shape}
 
 abbrev pub Place : Type 0
 Place = ℕ × Kind
@@ -185,22 +185,6 @@ cut_below depth places bound s f is low kept below =
     let kinds = below.kinds in
     let kinds = rw (cut_kinds places depth f.depth low) at kinds in
     (listed_from_below places f.places f.depth kept.rise kept.within kinds, below.bound)
-
--- cutting a state after removing places from its top is cutting it
-pub cut_once_popped : (s : Shape) (count lower : ℕ) → count + lower ≤ length s.kinds → cut_shape (popped_shape s count) lower ≡ cut_shape s lower
-cut_once_popped s count lower low = ap (λ ks. record { kinds = ks; bound = s.bound }) (dropped s.kinds count lower low)
-  where
-    dropped : (ks : List Kind) (count lower : ℕ) → count + lower ≤ length ks → drop (length (drop count ks) - lower) (drop count ks) ≡ drop (length ks - lower) ks
-    dropped ks zero lower low = refl
-    dropped [] (suc count) lower low = absurd (omega (arith, low))
-    dropped (k ∷ ks) (suc count) lower low =
-        let sum : length (k ∷ ks) - lower ≡ suc (length ks - lower) = omega (arith, low) in
-        rw sum (dropped ks count lower (omega (arith, low)))
-
-pub cut_at_depth : (s : Shape) (depth : ℕ) → depth ≡ length s.kinds → cut_shape s depth ≡ s
-cut_at_depth s depth same =
-    let none : length s.kinds - depth ≡ 0 = omega (arith, same) in
-    ap (λ n. record { kinds = drop n s.kinds; bound = s.bound }) none
 
 -- if kinds are below others, there are equally many
 pub below-length : (ks ls : List Kind) → AreBelow ks ls → length ks ≡ length ls

@@ -212,11 +212,6 @@ live_past k (r ∷ rows) l once b h = of (λ later g. live_past k rows l once.1 
         (λ here. rw here (behind (before_last (keys_of rows) k l later) g))
         (λ other. rw other (further later (behind (before_last (keys_of rows) k l later) g)))
 
-past_has : (k : Datum) (rows : List Row) (l : Datum) → Has (keys_of (rows_past k rows)) l → Has (keys_of rows) l
-past_has k [] l h = h
-past_has k (r ∷ rows) l h =
-    by_test (is_same k r.0) _ (λ here. inr (rw here at h)) (λ other. inr (past_has k rows l (rw other at h)))
-
 past_before : (k : Datum) (rows : List Row) (i j : Datum) → Before (keys_of (rows_past k rows)) i j → Before (keys_of rows) i j
 past_before k [] i j b = b
 past_before k (r ∷ rows) i j b =

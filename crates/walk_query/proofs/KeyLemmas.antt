@@ -1,17 +1,15 @@
 -- The keys that heads name, one after the other.
-use Rattle.std.proofs.Common.{◌≡◌, ◌∙◌, ◌++◌, ℕ, zero, suc, ◌-◌, ◌<◌, ◌≤◌, Option, Some, None, Bor, List, [], ◌∷◌, length, get_or, refl, sym, ap, subst, arith}
+use Rattle.std.proofs.Common.{◌≡◌, ◌∙◌, ◌++◌, ℕ, zero, suc, ◌-◌, ◌<◌, ◌≤◌, Option, Some, None, Bor, List, [], ◌∷◌, length, refl, sym, ap, subst, arith}
 use Rattle.std.specs.Prelude.{Bool, true, false, ◌||◌, cond, MatchOption}
 use Rattle.std.specs.HashSet.{HashSet, Updates, contains_by}
-use Rattle.std.specs.List.{All, HoldsAt, list_any}
+use Rattle.std.specs.List.{HoldsAt, list_any}
 use Rattle.std.proofs.lemmas.Cmp.{eq_by_cmp_equiv}
 use Rattle.std.proofs.lemmas.List.Folds.{list_any-append}
-use Rattle.std.proofs.lemmas.List.Elements.{All-get_or}
 use Rattle.term_core.specs.Datum.{Datum}
 use Rattle.term_core.specs.OrderLaws.{datum_cmp_total}
 use Rattle.term_operand.specs.Order.{is_same}
 use Rattle.mspec_syntax.specs.Pattern.{Pattern, patterns_of, cells_of, own_term}
-use Rattle.mspec_syntax.specs.Sound.{IsSoundPattern, AreSoundPatterns, IsSoundClause}
-use Rattle.mspec_syntax.specs.Specification.{Clause}
+use Rattle.mspec_syntax.specs.Sound.{IsSoundPattern, AreSoundPatterns}
 use Rattle.walk_query.specs.Named.{HasKeys, spelled_at, key_among, key_named}
 
 -- the result of reading an element: it is there, or the list is too short
@@ -48,12 +46,6 @@ key-past ps (suc m) n is some past = spelled-past ps m (omega (arith, is, past))
 pub no-key : (ps : List Pattern) (t p : Pattern) (keypos : ℕ) → cells_of ps t ≡ p → 0 < length ps → None ≡ key_named keypos p
 no-key [] t p keypos is some = absurd (omega arith)
 no-key (x ∷ ps) t p keypos is some = ap (key_named keypos) is
-
--- the head of a clause is sound
-pub sound-head : (cs : List Clause) (i : ℕ) (c : Clause) (p : Pattern) → i < length cs → c ≡ get_or cs i c → p ≡ c.head → All IsSoundClause cs → IsSoundPattern p
-sound-head cs i c p h is same all =
-    let sound : IsSoundClause c = subst IsSoundClause (sym is) (All-get_or IsSoundClause cs i c h all) in
-    subst IsSoundPattern (sym same) sound.head
 
 -- ---- a set of the keys so far
 

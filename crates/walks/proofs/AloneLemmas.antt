@@ -12,7 +12,7 @@ use Rattle.tables.specs.declared.options.Options.{Options}
 use Rattle.tables.specs.OneThread.{TableState}
 use Rattle.tables.specs.Turns.{Home, Views}
 use Rattle.walk_core.specs.Goes.{way, up_to}
-use Rattle.walk_core.specs.Walk.{Position, start_of}
+use Rattle.walk_core.specs.Walk.{Position}
 use Rattle.walk_core.specs.Walk.Position.{Over}
 use Rattle.walk_query.specs.declared.query.Query.{Query}
 use Rattle.walks.specs.declared.continuation.Step.{Step}
@@ -20,11 +20,11 @@ use Rattle.walks.specs.declared.continuation.Step.TheVariants as step
 use Rattle.walks.specs.Pieces.{IsPiece, Steps}
 use Rattle.walk_core.specs.declared.position.Position as walk_position
 use Rattle.walk_core.specs.Positions.{position_of}
-use Rattle.walks.specs.Query.{IsWithin, kept_of, plan_of, walk_of}
-use Rattle.walks.specs.Sights.{Piece, Sight, answers_in, made, piece_of, sights_from, first_position, whole}
+use Rattle.walks.specs.Query.{kept_of, plan_of}
+use Rattle.walks.specs.Sights.{Piece, Sight, answers_in, made, piece_of, sights_from}
 use Rattle.walks.specs.Alone.{IsAlong, IsPieceOf, IsSeen}
 use Rattle.walks.proofs.GoneLemmas.{Gone, goes_gone}
-use Rattle.walks.proofs.PlainLemmas.{first_there, starts, table_of}
+use Rattle.walks.proofs.PlainLemmas.{table_of}
 
 -- a table is the one with the session's options and its own states
 pub seen_table : (h : Home) (t : TableState) (v : Views) → IsSeen h t v → t ≡ table_of h t.states
@@ -98,17 +98,3 @@ steps_alone h t q limit at kept s v u alone some seen there steps =
     let is = seen_table h t v seen in
     subst (λ (x : TableState). IsPieceOf (piece_of (answer_of q.code) limit kept at (sights_from x (plan_of q h.options) at)) s × IsAlong h q (piece_of (answer_of q.code) limit kept at (sights_from x (plan_of q h.options) at)).at × IsSeen h x u) (sym is)
     (step_of_states h t.states q limit at kept s v u alone some (subst (λ (x : TableState). IsSeen h x v) is seen) there steps)
-
--- a position within the walk is one where the walk of a continuation can be
-pub within_along : {A B : Type 0} (h : Home) (q : Query A) (at : walk_position.Position B) → IsWithin h.options q at → IsAlong h q (position_of at)
-within_along h q at within = within
-
--- the first step of a walk
-pub begun_alone : {A : Type 0} (h : Home) (t : TableState) (q : Query A) (limit : ℕ) (s : Step A) (v u : Views)
-    → IsTrue h.alone → 0 < h.options.parts → IsSeen h t v → Steps h q limit (start_of (walk_of h Answers q)) [] s v u
-    → IsPieceOf (piece_of (answer_of q.code) limit [] (first_position (plan_of q h.options)) (whole t (plan_of q h.options))) s
-    × IsAlong h q (piece_of (answer_of q.code) limit [] (first_position (plan_of q h.options)) (whole t (plan_of q h.options))).at × IsSeen h t u
-begun_alone h t q limit s v u alone some seen steps =
-    let plan : Option (List Datum) = plan_of q h.options in
-    steps_alone h t q limit (first_position plan) [] s v u alone some seen (first_there h.options.parts plan some)
-    (subst (λ (at : Position). Steps h q limit at [] s v u) (starts h Answers q.code plan some) steps)

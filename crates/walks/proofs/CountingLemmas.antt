@@ -12,7 +12,6 @@ use Rattle.part_core.specs.Acts.Act.{Visit}
 use Rattle.part_core.specs.Acts.Answer.{Refused}
 use Rattle.part_core.specs.Ops.{refusal_of}
 use Rattle.part_core.specs.Replies.{most_counted}
-use Rattle.tables.specs.declared.options.Options.{Options}
 use Rattle.tables.specs.Turns.{Home, Views, Turned, Follows}
 use Rattle.std.specs.Prelude.{None, option_map}
 use Rattle.walk_core.specs.Goes.{way, whole, IsAt, Goes}
@@ -20,8 +19,8 @@ use Rattle.walk_core.specs.Goes.Goes.{stays, goes}
 use Rattle.walk_core.specs.Moments.{AreLegal}
 use Rattle.walk_core.specs.Walk.{Walk, Position, IsWalk, IsPosition, part_at, scope_at, start_of}
 use Rattle.walk_core.specs.Walk.Position.{Over}
-use Rattle.walk_core.proofs.GoesLemmas.{begins_so_far, goes_grown, grown_legal}
-use Rattle.walk_core.proofs.TurnLemmas.{turned_drifts, drifts_nowhere}
+use Rattle.walk_core.proofs.GoesLemmas.{begins_so_far}
+use Rattle.walk_core.proofs.TurnLemmas.{turned_drifts}
 use Rattle.walks.specs.Counting.{CountsMore, CountsTo, StopsAtCount, FinishesCount, GivesUpCount}
 use Rattle.walks.specs.Own.{FixesFirst, Releases}
 use Rattle.walk_query.specs.declared.query.Query.{Query}
@@ -65,15 +64,6 @@ count_foreign h w first at total before now then f is_at walk open_still other s
     no_stranger h w whole first at [] c.0 (λ u. u ≡ v) now then most_counted f is_at walk open_still other c.1 turned v refl position
 
 -- ---- whole walks
-
--- a walk from its beginning to its end
-pub tallied : (h : Home) (w : Walk) (first start at : Position) (total : ℕ) (before now : Views → Type 0) → IsAt h w → first ≡ start → at ≡ Over → ((v : Views) → before v → AreLegal h.options v) → Follows before now (CountsTo h w first at total) → Follows before now (StopsAtCount h w start Over total)
-tallied h w first start at total before now is_at is_first is_over legal counts =
-    subst (λ (p : Position). Follows before now (StopsAtCount h w p Over total)) is_first
-    (λ v b.
-    let f = subst (λ (p : Position). Follows before now (CountsTo h w first p total)) is_over counts v b in
-    let there : AreLegal h.options f.0 = subst (λ (o : Options). AreLegal o f.0) (sym is_at.options) (grown_legal w.options v f.0 (goes_grown h w whole (way v first []) (way f.0 Over f.2.0) is_at (subst (λ (o : Options). AreLegal o v) is_at.options (legal v b)) f.2.1)) in
-    (f.0, f.1, (f.2.0, (f.0, f.2.1, drifts_nowhere h f.0 there), f.2.2)))
 
 -- a walk that came to its end, or failed
 pub tally_stops : {X Y : Type 0} (r : Result X Y) (ended : X → ℕ) (h : Home) (w : Walk) (total : Y → ℕ) (before now : Views → Type 0) → IfOk r (λ x. Follows before now (StopsAtCount h w (start_of w) Over (ended x))) → IfErr r (λ y. Follows before now (λ v u. (at : Position) × StopsAtCount h w (start_of w) at (total y) v u)) → Follows before now (StopsAnywhere h w whole)

@@ -26,7 +26,7 @@ use Rattle.walk_core.proofs.GoesLemmas.{goes_position}
 use Rattle.walk_query.specs.declared.query.Query.{Query}
 use Rattle.walk_query.specs.Plan.{AreVisited}
 use Rattle.walks.specs.Query.{plan_of, walk_of}
-use Rattle.walk_core.proofs.TurnLemmas.{turned_drifts, drifts_nowhere, never_outside}
+use Rattle.walk_core.proofs.TurnLemmas.{turned_drifts, never_outside}
 
 -- a walk in terms of what the session sees: visits from where it began to where it is
 abbrev pub GoesBy : (h : Home) (w : Walk) (wanted : ℕ → ℕ) (at : Position) (gained : List Datum) (later : Position) (more : List Datum) → Views → Views → Type 0
@@ -48,11 +48,6 @@ stops_refused h w wanted first at begun gained before now then part act legal so
     let s = so_far v b in
     let t = turned s.0 s.1 in
     (t.0, t.1, (s.0, s.2, turned_drifts h part act s.0 t.0 (legal s.0 s.1) t.2))
-
--- visits, and then no further one
-pub stops_there : (h : Home) (w : Walk) (wanted : ℕ → ℕ) (first at : Position) (begun gained : List Datum) (before now : Views → Type 0) → ((v : Views) → now v → AreLegal h.options v) → Follows before now (GoesBy h w wanted first begun at gained) → Follows before now (λ v u. Stops h w wanted (way v first begun) at gained u)
-stops_there h w wanted first at begun gained before now legal so_far v b =
-    let s = so_far v b in (s.0, s.1, (s.0, s.2, drifts_nowhere h s.0 (legal s.0 s.1)))
 
 -- if a walk can go on from where it begins, its visits can only run out of memory
 pub no_stranger : (h : Home) (w : Walk) (wanted : ℕ → ℕ) (first at : Position) (begun gained : List Datum) (before now then : Views → Type 0) (n : ℕ) (f : Fault) → IsAt h w → IsWalk w → at ≢ Over → f ≢ fault.Memory → Follows before now (GoesBy h w wanted first begun at gained) → Follows now then (Turned h (part_at w at) (Visit w.purpose w.program (scope_at w at) n) (option_map Refused (refusal_of f))) → (v : Views) → before v → IsPosition w v first → ⊥

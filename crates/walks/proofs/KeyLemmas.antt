@@ -65,10 +65,6 @@ next_refused h part k before now fault.FixLimit follows = λ v b. absurd (never 
 next_refused h part k before now fault.NotFixed follows = λ v b. absurd (never h part k NotFixed (follows v b).2 refl)
 next_refused h part k before now fault.CursorOutside follows = λ v b. absurd (never h part k CursorOutside (follows v b).2 refl)
 
--- at the first part nothing is passed
-pub passed_none : (h : Home) (from : ℕ) (v w : Views) → ((k : ℕ) → w k ≡ v k) → Passed h from from v w
-passed_none h from v w same = record { none = λ k up less. absurd (omega (arith, up, less)); rest = λ k out. same k }
-
 -- one more part is passed
 pub passed_more : (h : Home) (from part : ℕ) (v w x : Views) → from ≤ part → Passed h from part v w
     → Turned h part First (Some (Replied (AtKey None))) w x → Passed h from (part + 1) v x

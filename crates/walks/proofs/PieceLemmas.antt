@@ -1,6 +1,6 @@
 -- Pieces, in terms of the answers that visits found.
 use Rattle.std.proofs.Common.{zero, suc, arith, ◌≡◌, ◌≢◌, ℕ, ◌<◌, ◌≤◌, ◌⊎◌, inl, inr, refl, ap, sym, subst, ◌∙◌, List, [], ◌∷◌, ◌++◌, length, take, drop}
-use Rattle.std.proofs.lemmas.List.{append_assoc, append-nil, take-append-drop, length-take}
+use Rattle.std.proofs.lemmas.List.{append_assoc, append-nil, length-take}
 use Rattle.std.proofs.Props.{props}
 use Rattle.std.proofs.Math.Logic.{∥∥₁_elim}
 use Rattle.std.specs.Prelude.{min, IfOk, IfErr, Result, Ok, Err}
@@ -24,12 +24,6 @@ use Rattle.walks.specs.Pieces.{IsPiece, IsStepOf, IsWalkOf, Steps, IsCarriedOn, 
 use Rattle.walk_core.specs.Positions.{position_of}
 use Rattle.walks.specs.Query.{IsWithin, kept_of, walk_of}
 use Rattle.walks.proofs.GoingLemmas.{GoesBy, is_walk}
-
--- what was found is what is returned, followed by what is kept
-pub goes_given : (h : Home) (w : Walk) (wanted : ℕ → ℕ) (first at : Position) (begun gained piece kept : List Datum) (limit : ℕ) (before now : Views → Type 0) → piece ≡ take limit gained → kept ≡ drop limit gained → Follows before now (GoesBy h w wanted first begun at gained) → Follows before now (GoesBy h w wanted first begun at (piece ++ kept))
-goes_given h w wanted first at begun gained piece kept limit before now front rest so_far =
-    let whole : piece ++ kept ≡ gained = ap (λ (ys : List Datum). ys ++ kept) front ∙ ap (λ (ys : List Datum). take limit gained ++ ys) rest ∙ take-append-drop limit gained in
-    subst (λ (ys : List Datum). Follows before now (GoesBy h w wanted first begun at ys)) (sym whole) so_far
 
 drop_all : (xs : List Datum) (n : ℕ) → length xs ≤ n → drop n xs ≡ []
 drop_all [] zero few = refl

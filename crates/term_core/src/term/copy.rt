@@ -33,6 +33,8 @@ fn copy_shape<A: Allocator>(shape: &Shape<A>) -> Result<Shape<A>, AllocError>
         Shape::TupleOfTwo(depth, row) => Ok(Shape::TupleOfTwo(*depth, Arc::try_clone(row)?)),
         Shape::TupleOfThree(depth, row) => Ok(Shape::TupleOfThree(*depth, Arc::try_clone(row)?)),
         Shape::TupleOfFour(depth, row) => Ok(Shape::TupleOfFour(*depth, Arc::try_clone(row)?)),
+        Shape::TupleOfFive(depth, row) => Ok(Shape::TupleOfFive(*depth, Arc::try_clone(row)?)),
+        Shape::TupleOfSix(depth, row) => Ok(Shape::TupleOfSix(*depth, Arc::try_clone(row)?)),
         Shape::Tuple(depth, elements) => Ok(Shape::Tuple(*depth, Arc::try_clone(elements)?)),
         Shape::ListOfOne(depth, row) => Ok(Shape::ListOfOne(*depth, Arc::try_clone(row)?)),
         Shape::ListOfTwo(depth, row) => Ok(Shape::ListOfTwo(*depth, Arc::try_clone(row)?)),

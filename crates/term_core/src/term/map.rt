@@ -1,212 +1,63 @@
 //! Maps, made of pairs in ascending key order.
-ghost use Rattle.std.specs.Prelude.{◌≡◌, ◌<◌, ◌++◌, ◌∷◌, [], ◌≤◌, ◌+◌, length, vec_len, vec_capacity, IfOk, IfErr};
+ghost use Rattle.std.specs.Prelude.{◌≡◌, ◌∷◌, [], length, IfOk, IfErr};
+ghost use Rattle.term_core.specs.Term.{datum_of, IsKept};
 ghost use Rattle.term_core.specs.Datum.{entries_of};
 ghost use Rattle.term_core.specs.Datum.Datum.{map};
 ghost use Rattle.term_core.specs.Fault.{IsFault};
+ghost use Rattle.term_core.specs.Limits.{depth as depth_of};
 ghost use Rattle.term_core.specs.MapPairs.{AreRising, IsMapDepth};
 
+use super::blocks::{block_of_four, block_of_three, block_of_two, last};
 use super::{Shape, Term, shared};
 use crate::MAX_DEPTH;
 use crate::fault::{Fault, Refused};
 use std::alloc::Allocator;
+use std::sync::Arc;
 
-/// Makes the map of one pair, of the given depth and within the limits, with the smallest allocation. On failure, hands
-/// back the row with the pair in it.
-fn from_one<A: Allocator>(
+/// Moves the only pair of a row into a block. On failure, hands the row back.
+fn block_of_pair<A: Allocator>(
     alloc: A,
-    depth: u8,
     mut pairs: Vec<(Term<A>, Term<A>), A>,
-) -> Result<Term<A>, Refused<Vec<(Term<A>, Term<A>), A>>>
-    requires within { IsMapDepth depth pairs.items }
-    requires rising { AreRising (entries_of pairs.items) }
-    requires one { length pairs.items ≡ 1 }
-    ensures ok { IfOk result (λ t. t ≡ map (entries_of pairs.items)) }
+) -> Result<Arc<(Term<A>, Term<A>), A>, Refused<Vec<(Term<A>, Term<A>), A>>>
+    requires { length pairs.items ≡ 1 }
+    ensures ok { IfOk result (λ pair. pair.value ∷ [] ≡ pairs.items) }
     ensures refused { IfErr result (λ r. (r.value.items ≡ pairs.items)
         × (r.fault ≡ Fault.Memory)) }
 {
-    let Some(pair) = pairs.pop() else {
-        unreachable!()
-    };
+    let pair = last(&mut pairs);
     match shared(alloc, pair) {
-        Ok(pair) => Ok(Term {
-            shape: Shape::MapOfOne(depth, pair),
-        }),
+        Ok(pair) => Ok(pair),
         Err(refused) => {
-            pairs.push_reserved(refused.value);
+            let Refused { value: pair, fault } = refused;
+            pairs.push_reserved(pair);
             Err(Refused {
                 value: pairs,
-                fault: refused.fault,
+                fault,
             })
         }
     }
 }
 
-/// Removes and returns the last pair of a row that has one. The row keeps its capacity.
-fn last_pair<A: Allocator>(pairs: &mut Vec<(Term<A>, Term<A>), A>) -> (Term<A>, Term<A>)
-    requires { 0 < length pairs.old.items }
-    ensures pair { pairs.old.items ≡ pairs.new.items ++ result ∷ [] }
-    ensures room { vec_capacity pairs.new ≡ vec_capacity pairs.old }
-{
-    match pairs.pop() {
-        Some(pair) => pair,
-        None => unreachable!(),
-    }
-}
-
-/// Appends two pairs to a row that has room for them.
-fn put_back_two<A: Allocator>(pairs: &mut Vec<(Term<A>, Term<A>), A>, row: [(Term<A>, Term<A>); 2])
-    requires { vec_len pairs.old + 2 ≤ vec_capacity pairs.old }
-    ensures { pairs.new.items ≡ pairs.old.items ++ row }
-{
-    match row {
-        [first, second] => {
-            pairs.push_reserved(first);
-            pairs.push_reserved(second);
-        }
-    }
-}
-
-/// Makes the map of two pairs, of the given depth and within the limits, in one block of its own size. On failure, hands
-/// the pairs back.
-fn from_two<A: Allocator>(
-    alloc: A,
-    depth: u8,
-    mut pairs: Vec<(Term<A>, Term<A>), A>,
-) -> Result<Term<A>, Refused<Vec<(Term<A>, Term<A>), A>>>
-    requires within { IsMapDepth depth pairs.items }
-    requires rising { AreRising (entries_of pairs.items) }
-    requires two { length pairs.items ≡ 2 }
-    ensures ok { IfOk result (λ t. t ≡ map (entries_of pairs.items)) }
-    ensures refused { IfErr result (λ r. (r.value.items ≡ pairs.items)
-        × (r.fault ≡ Fault.Memory)) }
-{
-    let second = last_pair(&mut pairs);
-    let first = last_pair(&mut pairs);
-    match shared(alloc, [first, second]) {
-        Ok(row) => Ok(Term {
-            shape: Shape::MapOfTwo(depth, row),
-        }),
-        Err(refused) => {
-            put_back_two(&mut pairs, refused.value);
-            Err(Refused {
-                value: pairs,
-                fault: refused.fault,
-            })
-        }
-    }
-}
-
-/// Appends three pairs to a row that has room for them.
-fn put_back_three<A: Allocator>(
-    pairs: &mut Vec<(Term<A>, Term<A>), A>,
-    row: [(Term<A>, Term<A>); 3],
-)
-    requires { vec_len pairs.old + 3 ≤ vec_capacity pairs.old }
-    ensures { pairs.new.items ≡ pairs.old.items ++ row }
-{
-    match row {
-        [first, second, third] => {
-            pairs.push_reserved(first);
-            pairs.push_reserved(second);
-            pairs.push_reserved(third);
-        }
-    }
-}
-
-/// Makes the map of three pairs, of the given depth and within the limits, in one block of its own size. On failure, hands
-/// the pairs back.
-fn from_three<A: Allocator>(
-    alloc: A,
-    depth: u8,
-    mut pairs: Vec<(Term<A>, Term<A>), A>,
-) -> Result<Term<A>, Refused<Vec<(Term<A>, Term<A>), A>>>
-    requires within { IsMapDepth depth pairs.items }
-    requires rising { AreRising (entries_of pairs.items) }
-    requires three { length pairs.items ≡ 3 }
-    ensures ok { IfOk result (λ t. t ≡ map (entries_of pairs.items)) }
-    ensures refused { IfErr result (λ r. (r.value.items ≡ pairs.items)
-        × (r.fault ≡ Fault.Memory)) }
-{
-    let third = last_pair(&mut pairs);
-    let second = last_pair(&mut pairs);
-    let first = last_pair(&mut pairs);
-    match shared(alloc, [first, second, third]) {
-        Ok(row) => Ok(Term {
-            shape: Shape::MapOfThree(depth, row),
-        }),
-        Err(refused) => {
-            put_back_three(&mut pairs, refused.value);
-            Err(Refused {
-                value: pairs,
-                fault: refused.fault,
-            })
-        }
-    }
-}
-
-/// Appends four pairs to a row that has room for them.
-fn put_back_four<A: Allocator>(pairs: &mut Vec<(Term<A>, Term<A>), A>, row: [(Term<A>, Term<A>); 4])
-    requires { vec_len pairs.old + 4 ≤ vec_capacity pairs.old }
-    ensures { pairs.new.items ≡ pairs.old.items ++ row }
-{
-    match row {
-        [first, second, third, fourth] => {
-            pairs.push_reserved(first);
-            pairs.push_reserved(second);
-            pairs.push_reserved(third);
-            pairs.push_reserved(fourth);
-        }
-    }
-}
-
-/// Makes the map of four pairs, of the given depth and within the limits, in one block of its own size. On failure, hands
-/// the pairs back.
-fn from_four<A: Allocator>(
-    alloc: A,
-    depth: u8,
-    mut pairs: Vec<(Term<A>, Term<A>), A>,
-) -> Result<Term<A>, Refused<Vec<(Term<A>, Term<A>), A>>>
-    requires within { IsMapDepth depth pairs.items }
-    requires rising { AreRising (entries_of pairs.items) }
-    requires four { length pairs.items ≡ 4 }
-    ensures ok { IfOk result (λ t. t ≡ map (entries_of pairs.items)) }
-    ensures refused { IfErr result (λ r. (r.value.items ≡ pairs.items)
-        × (r.fault ≡ Fault.Memory)) }
-{
-    let fourth = last_pair(&mut pairs);
-    let third = last_pair(&mut pairs);
-    let second = last_pair(&mut pairs);
-    let first = last_pair(&mut pairs);
-    match shared(alloc, [first, second, third, fourth]) {
-        Ok(row) => Ok(Term {
-            shape: Shape::MapOfFour(depth, row),
-        }),
-        Err(refused) => {
-            put_back_four(&mut pairs, refused.value);
-            Err(Refused {
-                value: pairs,
-                fault: refused.fault,
-            })
-        }
-    }
-}
-
-/// Makes the map of pairs, of the given depth and within the limits. On failure, hands the pairs back.
-fn from_many<A: Allocator>(
+/// Makes the representation of the map of these pairs, of the given depth. One to four pairs take one block. On failure,
+/// hands the pairs back.
+fn map_shape<A: Allocator>(
     alloc: A,
     depth: u8,
     pairs: Vec<(Term<A>, Term<A>), A>,
-) -> Result<Term<A>, Refused<Vec<(Term<A>, Term<A>), A>>>
-    requires within { IsMapDepth depth pairs.items }
-    requires rising { AreRising (entries_of pairs.items) }
-    ensures ok { IfOk result (λ t. t ≡ map (entries_of pairs.items)) }
+) -> Result<Shape<A>, Refused<Vec<(Term<A>, Term<A>), A>>>
+    requires { depth ≡ depth_of (map (entries_of pairs.items)) }
+    ensures value { IfOk result (λ s. datum_of s ≡ map (entries_of pairs.items)) }
+    ensures kept { IfOk result (λ s. IsKept s) }
     ensures refused { IfErr result (λ r. (r.value.items ≡ pairs.items)
         × (r.fault ≡ Fault.Memory)) }
 {
-    let pairs = shared(alloc, pairs)?;
-    Ok(Term {
-        shape: Shape::Map(depth, pairs),
-    })
+    match pairs.len() {
+        1 => Ok(Shape::MapOfOne(depth, block_of_pair(alloc, pairs)?)),
+        2 => Ok(Shape::MapOfTwo(depth, block_of_two(alloc, pairs)?)),
+        3 => Ok(Shape::MapOfThree(depth, block_of_three(alloc, pairs)?)),
+        4 => Ok(Shape::MapOfFour(depth, block_of_four(alloc, pairs)?)),
+        _ => Ok(Shape::Map(depth, shared(alloc, pairs)?)),
+    }
 }
 
 impl<A: Allocator> Term<A> {
@@ -247,12 +98,7 @@ impl<A: Allocator> Term<A> {
         ensures refused { IfErr result (λ r. (r.value.items ≡ pairs.items)
             × (r.fault ≡ Fault.Memory)) }
     {
-        match pairs.len() {
-            1 => from_one(alloc, depth, pairs),
-            2 => from_two(alloc, depth, pairs),
-            3 => from_three(alloc, depth, pairs),
-            4 => from_four(alloc, depth, pairs),
-            _ => from_many(alloc, depth, pairs),
-        }
+        let shape = map_shape(alloc, depth, pairs)?;
+        Ok(Term { shape })
     }
 }

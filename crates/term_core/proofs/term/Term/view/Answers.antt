@@ -49,6 +49,12 @@ shared_whole_as_slice-result-in-TupleOfThree g c = omega arith
 pub shared_whole_as_slice-result-in-TupleOfFour : goal.shared_whole_as_slice-result-in-TupleOfFour
 shared_whole_as_slice-result-in-TupleOfFour g c = omega arith
 
+pub shared_whole_as_slice-result-in-TupleOfFive : goal.shared_whole_as_slice-result-in-TupleOfFive
+shared_whole_as_slice-result-in-TupleOfFive g c = omega arith
+
+pub shared_whole_as_slice-result-in-TupleOfSix : goal.shared_whole_as_slice-result-in-TupleOfSix
+shared_whole_as_slice-result-in-TupleOfSix g c = omega arith
+
 pub shared_whole_as_slice-result-in-ListOfOne : goal.shared_whole_as_slice-result-in-ListOfOne
 shared_whole_as_slice-result-in-ListOfOne g c = omega arith
 
