@@ -22,6 +22,7 @@ mod blocks;
 mod bytes;
 mod copies;
 mod copy;
+mod last;
 mod map;
 mod pairs;
 mod rest;

@@ -1,5 +1,5 @@
-//! Rows of a few values, moved from a vector into one block of their own size.
-ghost use Rattle.std.specs.Prelude.{◌≡◌, ◌<◌, ◌++◌, ◌∷◌, [], length, vec_capacity, IfOk, IfErr};
+//! Values of a vector, moved into one block of their own size if they are few.
+ghost use Rattle.std.specs.Prelude.{◌≡◌, ◌<◌, ◌≤◌, ◌++◌, ◌∷◌, [], drop, length, take, vec_capacity, IfOk, IfErr, OnOk};
 ghost use Rattle.term_core.specs.Datum.{cells, items_of};
 ghost use Rattle.term_core.specs.Datum.Datum.{nil, tuple};
 ghost use Rattle.term_core.specs.Limits.{depth as depth_of};
@@ -7,7 +7,7 @@ ghost use Rattle.term_core.specs.Term.{datum_of, IsKept};
 
 use super::{Cells, Shape, Term, shared};
 use crate::fault::{Fault, Refused};
-use std::alloc::Allocator;
+use std::alloc::{AllocError, Allocator};
 use std::sync::Arc;
 
 /// Removes and returns the last value of a row that has one. The row keeps its capacity.
@@ -22,8 +22,83 @@ pub(super) fn last<T, A: Allocator>(row: &mut Vec<T, A>) -> T
     }
 }
 
+/// Removes and returns the last value of a row that has as many, in their order.
+#[inline(always)]
+fn last_one<T, A: Allocator>(row: &mut Vec<T, A>) -> [T; 1]
+    requires { 1 ≤ length row.old.items }
+    ensures values { row.old.items ≡ row.new.items ++ result }
+    ensures room { vec_capacity row.new ≡ vec_capacity row.old }
+{
+    [last(row)]
+}
+
+/// Removes and returns the last two values of a row that has as many, in their order.
+#[inline(always)]
+fn last_two<T, A: Allocator>(row: &mut Vec<T, A>) -> [T; 2]
+    requires { 2 ≤ length row.old.items }
+    ensures values { row.old.items ≡ row.new.items ++ result }
+    ensures room { vec_capacity row.new ≡ vec_capacity row.old }
+{
+    let second = last(row);
+    [last(row), second]
+}
+
+/// Removes and returns the last three values of a row that has as many, in their order.
+#[inline(always)]
+fn last_three<T, A: Allocator>(row: &mut Vec<T, A>) -> [T; 3]
+    requires { 3 ≤ length row.old.items }
+    ensures values { row.old.items ≡ row.new.items ++ result }
+    ensures room { vec_capacity row.new ≡ vec_capacity row.old }
+{
+    let third = last(row);
+    let second = last(row);
+    [last(row), second, third]
+}
+
+/// Removes and returns the last four values of a row that has as many, in their order.
+#[inline(always)]
+fn last_four<T, A: Allocator>(row: &mut Vec<T, A>) -> [T; 4]
+    requires { 4 ≤ length row.old.items }
+    ensures values { row.old.items ≡ row.new.items ++ result }
+    ensures room { vec_capacity row.new ≡ vec_capacity row.old }
+{
+    let fourth = last(row);
+    let third = last(row);
+    let second = last(row);
+    [last(row), second, third, fourth]
+}
+
+/// Removes and returns the last five values of a row that has as many, in their order.
+#[inline(always)]
+fn last_five<T, A: Allocator>(row: &mut Vec<T, A>) -> [T; 5]
+    requires { 5 ≤ length row.old.items }
+    ensures values { row.old.items ≡ row.new.items ++ result }
+    ensures room { vec_capacity row.new ≡ vec_capacity row.old }
+{
+    let fifth = last(row);
+    let fourth = last(row);
+    let third = last(row);
+    let second = last(row);
+    [last(row), second, third, fourth, fifth]
+}
+
+/// Removes and returns the last six values of a row that has as many, in their order.
+#[inline(always)]
+fn last_six<T, A: Allocator>(row: &mut Vec<T, A>) -> [T; 6]
+    requires { 6 ≤ length row.old.items }
+    ensures values { row.old.items ≡ row.new.items ++ result }
+    ensures room { vec_capacity row.new ≡ vec_capacity row.old }
+{
+    let sixth = last(row);
+    let fifth = last(row);
+    let fourth = last(row);
+    let third = last(row);
+    let second = last(row);
+    [last(row), second, third, fourth, fifth, sixth]
+}
+
 /// Moves the only value of a row into a block. On failure, hands the row back.
-pub(super) fn block_of_one<T: Drop, A: Allocator>(
+fn block_of_one<T: Drop, A: Allocator>(
     alloc: A,
     mut row: Vec<T, A>,
 ) -> Result<Arc<[T; 1], A>, Refused<Vec<T, A>>>
@@ -31,8 +106,7 @@ pub(super) fn block_of_one<T: Drop, A: Allocator>(
     ensures ok { IfOk result (λ b. b.value ≡ row.items) }
     ensures refused { IfErr result (λ r. (r.value.items ≡ row.items) × (r.fault ≡ Fault.Memory)) }
 {
-    let first = last(&mut row);
-    match shared(alloc, [first]) {
+    match shared(alloc, last_one(&mut row)) {
         Ok(block) => Ok(block),
         Err(refused) => {
             let Refused {
@@ -54,9 +128,7 @@ pub(super) fn block_of_two<T: Drop, A: Allocator>(
     ensures ok { IfOk result (λ b. b.value ≡ row.items) }
     ensures refused { IfErr result (λ r. (r.value.items ≡ row.items) × (r.fault ≡ Fault.Memory)) }
 {
-    let second = last(&mut row);
-    let first = last(&mut row);
-    match shared(alloc, [first, second]) {
+    match shared(alloc, last_two(&mut row)) {
         Ok(block) => Ok(block),
         Err(refused) => {
             let Refused {
@@ -79,10 +151,7 @@ pub(super) fn block_of_three<T: Drop, A: Allocator>(
     ensures ok { IfOk result (λ b. b.value ≡ row.items) }
     ensures refused { IfErr result (λ r. (r.value.items ≡ row.items) × (r.fault ≡ Fault.Memory)) }
 {
-    let third = last(&mut row);
-    let second = last(&mut row);
-    let first = last(&mut row);
-    match shared(alloc, [first, second, third]) {
+    match shared(alloc, last_three(&mut row)) {
         Ok(block) => Ok(block),
         Err(refused) => {
             let Refused {
@@ -106,11 +175,7 @@ pub(super) fn block_of_four<T: Drop, A: Allocator>(
     ensures ok { IfOk result (λ b. b.value ≡ row.items) }
     ensures refused { IfErr result (λ r. (r.value.items ≡ row.items) × (r.fault ≡ Fault.Memory)) }
 {
-    let fourth = last(&mut row);
-    let third = last(&mut row);
-    let second = last(&mut row);
-    let first = last(&mut row);
-    match shared(alloc, [first, second, third, fourth]) {
+    match shared(alloc, last_four(&mut row)) {
         Ok(block) => Ok(block),
         Err(refused) => {
             let Refused {
@@ -135,12 +200,7 @@ fn block_of_five<T: Drop, A: Allocator>(
     ensures ok { IfOk result (λ b. b.value ≡ row.items) }
     ensures refused { IfErr result (λ r. (r.value.items ≡ row.items) × (r.fault ≡ Fault.Memory)) }
 {
-    let fifth = last(&mut row);
-    let fourth = last(&mut row);
-    let third = last(&mut row);
-    let second = last(&mut row);
-    let first = last(&mut row);
-    match shared(alloc, [first, second, third, fourth, fifth]) {
+    match shared(alloc, last_five(&mut row)) {
         Ok(block) => Ok(block),
         Err(refused) => {
             let Refused {
@@ -166,13 +226,7 @@ fn block_of_six<T: Drop, A: Allocator>(
     ensures ok { IfOk result (λ b. b.value ≡ row.items) }
     ensures refused { IfErr result (λ r. (r.value.items ≡ row.items) × (r.fault ≡ Fault.Memory)) }
 {
-    let sixth = last(&mut row);
-    let fifth = last(&mut row);
-    let fourth = last(&mut row);
-    let third = last(&mut row);
-    let second = last(&mut row);
-    let first = last(&mut row);
-    match shared(alloc, [first, second, third, fourth, fifth, sixth]) {
+    match shared(alloc, last_six(&mut row)) {
         Ok(block) => Ok(block),
         Err(refused) => {
             let Refused {
@@ -249,6 +303,74 @@ pub(super) fn proper_shape<A: Allocator>(
                     })
                 }
             }
+        }
+    }
+}
+
+/// Moves a row's values from an index on into a row of their own.
+fn split<T: Drop, A: Allocator + Copy>(
+    row: &mut Vec<T, A>,
+    base: usize,
+) -> Result<Vec<T, A>, AllocError>
+    requires { base ≤ length row.old.items }
+    ensures { IfOk result (λ more. (row.new.items ≡ take base row.old.items)
+        × (more.items ≡ drop base row.old.items)) }
+{
+    Ok(row.split_off(base)?)
+}
+
+/// Makes the representation of the tuple of a row's terms from an index on, of the given depth, and removes them from
+/// the row. Up to six elements take one block. Fails if an allocation fails, when some of the terms may be removed.
+#[inline(always)]
+pub(super) fn tuple_of_last<A: Allocator + Copy>(
+    alloc: A,
+    depth: u8,
+    row: &mut Vec<Term<A>, A>,
+    base: usize,
+) -> Result<Shape<A>, AllocError>
+    requires within { base ≤ length row.old.items }
+    requires depth { depth ≡ depth_of (tuple (items_of (drop base row.old.items))) }
+    ensures rest { OnOk result (row.new.items ≡ take base row.old.items) }
+    ensures value { IfOk result (λ s. datum_of s ≡ tuple (items_of (drop base row.old.items))) }
+    ensures kept { IfOk result (λ s. IsKept s) }
+{
+    match row.len() - base {
+        0 => Ok(Shape::Unit),
+        1 => Ok(Shape::TupleOfOne(depth, Arc::new(alloc, last_one(row))?)),
+        2 => Ok(Shape::TupleOfTwo(depth, Arc::new(alloc, last_two(row))?)),
+        3 => Ok(Shape::TupleOfThree(depth, Arc::new(alloc, last_three(row))?)),
+        4 => Ok(Shape::TupleOfFour(depth, Arc::new(alloc, last_four(row))?)),
+        5 => Ok(Shape::TupleOfFive(depth, Arc::new(alloc, last_five(row))?)),
+        6 => Ok(Shape::TupleOfSix(depth, Arc::new(alloc, last_six(row))?)),
+        _ => Ok(Shape::Tuple(depth, Arc::new(alloc, split(row, base)?)?)),
+    }
+}
+
+/// Makes the representation of the list of a row's terms from an index on, at least one, of the given depth, and removes
+/// them from the row. Up to four elements take one block. Fails if an allocation fails, when some of the terms may be
+/// removed.
+#[inline(always)]
+pub(super) fn list_of_last<A: Allocator + Copy>(
+    alloc: A,
+    depth: u8,
+    row: &mut Vec<Term<A>, A>,
+    base: usize,
+) -> Result<Shape<A>, AllocError>
+    requires some { base < length row.old.items }
+    requires depth { depth ≡ depth_of (cells (drop base row.old.items) nil) }
+    ensures rest { OnOk result (row.new.items ≡ take base row.old.items) }
+    ensures value { IfOk result (λ s. datum_of s ≡ cells (drop base row.old.items) nil) }
+    ensures kept { IfOk result (λ s. IsKept s) }
+{
+    match row.len() - base {
+        1 => Ok(Shape::ListOfOne(depth, Arc::new(alloc, last_one(row))?)),
+        2 => Ok(Shape::ListOfTwo(depth, Arc::new(alloc, last_two(row))?)),
+        3 => Ok(Shape::ListOfThree(depth, Arc::new(alloc, last_three(row))?)),
+        4 => Ok(Shape::ListOfFour(depth, Arc::new(alloc, last_four(row))?)),
+        _ => {
+            let elements = split(row, base)?;
+            let tail = None;
+            Ok(Shape::List(depth, Arc::new(alloc, Cells { elements, tail })?))
         }
     }
 }
