@@ -1,5 +1,5 @@
 /* A filter in C: a specification is compiled to a code file, which may travel from here; who receives it loads it, and asks it about
- * objects. `.ci/library_links` builds and runs this. */
+ * objects. `tests/library_links` builds and runs this. */
 #include "cutterash.h"
 
 #include <stdio.h>

@@ -1,4 +1,4 @@
-/* A table in C: it is opened, asked and walked by texts of commands, and answers a line for each. `.ci/library_links`
+/* A table in C: it is opened, asked and walked by texts of commands, and answers a line for each. `tests/library_links`
  * builds and runs this. */
 #include "cutterash.h"
 

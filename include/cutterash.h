@@ -71,7 +71,8 @@ void cutterash_close(struct cutterash_filter *filter);
 
 /* A table handle, open or closed. Zeroed, it is closed. An open one owns memory until it is closed. It executes
  * commands, among them one that creates its table of ets and one that deletes it ("{open,set,1,1,1}.", "{close}.",
- * docs/TABLES.md). */
+ * docs/TABLES.md). An integer key is its own hash: if integer keys step by a power of two, take a number of parts that is
+ * none ("{open,set,1,61,1}."), so that they are not all in one part. */
 struct cutterash_table {
     void *engine;
     bool is_open;

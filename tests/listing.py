@@ -4,7 +4,7 @@ each specification in the rows of `crates/ets_tool` (of queries, scans, and the 
 the file that `compile` writes of it, and of each file in these rows. What is refused is refused as by `compile` or `verify`. Silent where all
 agree.
 
-usage: .ci/listing.py [PROGRAM [EACH]]     EACH: one row of so many is taken, each if none is given"""
+usage: tests/listing.py [PROGRAM [EACH]]     EACH: one row of so many is taken, each if none is given"""
 from concurrent.futures import ThreadPoolExecutor
 from dataclasses import dataclass
 import os
@@ -13,7 +13,7 @@ import subprocess
 import sys
 
 TOP = os.path.dirname(os.path.dirname(os.path.abspath(__file__)))
-sys.path.insert(0, f"{TOP}/.ci")
+sys.path.insert(0, f"{TOP}/tests")
 sys.dont_write_bytecode = True
 from built import PROGRAM, all_right
 
@@ -485,7 +485,7 @@ def main(words):
     texts = list(dict.fromkeys(f"{term.text}.\n" for term in rows))[::each]
     files = [text for text in texts if text.startswith("<<")]
     if len(texts) * each < 2600 or len(files) * each < 1300:
-        print(f".ci/listing.py: no more than {len(texts)} rows, {len(files)} of them files", file=sys.stderr)
+        print(f"tests/listing.py: no more than {len(texts)} rows, {len(files)} of them files", file=sys.stderr)
         return 1
     with ThreadPoolExecutor(os.cpu_count()) as pool:
         right = list(pool.map(lambda it: (file_agrees if it.startswith("<<") else specification_agrees)(program, it), texts))

@@ -2,7 +2,7 @@
  * constant and loaded, with each request for memory refused in turn, alone and with all after it. Refused or not, what is answered is the term,
  * nothing is lost, and no block stays. Silent where all is as it should be.
  *
- * usage: library_terms FILE     FILE: a term a line, as it is written (`.ci/terms_agree --texts`) */
+ * usage: library_terms FILE     FILE: a term a line, as it is written (`tests/terms_agree --texts`) */
 #include "cutterash.h"
 #include "refusing.h"
 
