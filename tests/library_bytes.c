@@ -1,4 +1,4 @@
-/* How many bytes the library for C asks for, beside bounds by the size of what it is given: no call takes memory for what isn't there. Silent
+/* How many bytes the library for C requests, compared with bounds by the size of its input: no call allocates for what isn't there. Silent
  * where all is as it should be.
  *
  * usage: library_bytes [--tell]     --tell: writes what each call asked for, and its bound */

@@ -1,6 +1,6 @@
 /* Terms of every form in memory, through the library for C: each is read, run, written, inserted, looked up, matched, deleted, compiled as a
- * constant and loaded, with each request for memory refused in turn, alone and with all after it. Refused or not, what is answered is the term,
- * nothing is lost, and no block stays. Silent where all is as it should be.
+ * constant and loaded, with each allocation failing in turn, alone and with all after it. In each case the answer is the term, nothing is lost,
+ * and no block stays. Silent if all is as it should be.
  *
  * usage: library_terms FILE     FILE: a term a line, as it is written (`tests/terms_agree --texts`) */
 #include "cutterash.h"
@@ -67,7 +67,7 @@ static struct cutterash_reply obey_text(void *with) {
     return cutterash_table_run(with, (const uint8_t *)text.bytes, text.length, room, sizeof room);
 }
 
-/* Whether the pattern, spelled, stands at the front of the room. */
+/* Whether the pattern, spelled, is at the front of the room. */
 static bool is_at_front(struct cutterash_reply reply, const char *pattern) {
     spell(&wanted, pattern);
     return reply.length == wanted.length && memcmp(room, wanted.bytes, reply.length) == 0;

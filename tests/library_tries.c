@@ -1,5 +1,5 @@
-/* Tries what no clause says of the library for C: that C reaches it, that calls succeed, that no block is lost over many of them, and that
- * each request for memory may be refused. Silent where all is as it should be. Linked with --wrap for malloc, realloc and free. */
+/* Tries what no contract says of the library for C: that C reaches it, that calls succeed, that no block is lost over many of them, and that
+ * each allocation may fail. Silent if all is as it should be. Linked with --wrap for malloc, realloc and free. */
 #include "cutterash.h"
 #include "refusing.h"
 
@@ -154,7 +154,7 @@ static struct cutterash_reply obey(struct cutterash_table *table, const char *te
     return cutterash_table_run(table, (const uint8_t *)text, strlen(text), room, length);
 }
 
-/* A reply of so many bytes, which stand at the front of the room. */
+/* A reply of this many bytes, which are at the front of the room. */
 static bool answers(struct cutterash_reply reply, const char *lines, const uint8_t *room) {
     return is(reply, CUTTERASH_DONE, 0, 0, 0, 0, strlen(lines)) && memcmp(room, lines, strlen(lines)) == 0;
 }
@@ -197,7 +197,7 @@ static void try_table(void) {
     HOLDS(answers(obey(&table, "{more,0,0}. {more,0,0}. {member,0,1}. {close}. {close}.", room, sizeof room),
                   "'$end_of_table'.\n{error,62}.\nfalse.\n[{7}].\n{error,65}.\n", room));
 
-    /* What an open table keeps is let go when it is opened again. */
+    /* What an open table has is freed when it is opened again. */
     HOLDS(answers(obey(&table, "{open,bag,1,1,1}. {insert,0,{1}}.", room, sizeof room), "true.\ntrue.\n", room));
     HOLDS(is(cutterash_table_open(&table), CUTTERASH_DONE, 0, 0, 0, 0, 0));
     HOLDS(answers(cutterash_table_replies(&table, room, sizeof room), "", room));
@@ -218,7 +218,7 @@ static const char replied[] =
     "{[1],0}.\n'$end_of_table'.\n2.\n1.\ntrue.\ntrue.\ntrue.\n[{1,{a,[2,3]}}].\n";
 
 /* Each request for memory is refused in turn. A run that can't read its text leaves the table as it was; one in which memory
- * runs out behind that leaves it at its beginning, with a beginning of the lines. */
+ * runs out later leaves it at its beginning, with the first of the lines. */
 static void try_table_memory(const char *open_text) {
     uint8_t room[512];
     struct cutterash_table table = {0};

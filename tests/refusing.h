@@ -1,4 +1,4 @@
-/* Has requests for memory refused, and counts their bytes: linked with --wrap for malloc, realloc and free. Each program includes this once. */
+/* Makes allocations fail, and counts their bytes: linked with --wrap for malloc, realloc and free. Each program includes this once. */
 #include <stdbool.h>
 #include <stdio.h>
 #include <stdlib.h>
