@@ -85,10 +85,12 @@ static uint8_t *put(uint8_t *at, const uint8_t *bytes, size_t count) {
 
 #define PUT(at, ...) put(at, (const uint8_t[]){__VA_ARGS__}, sizeof(const uint8_t[]){__VA_ARGS__})
 
-/* Code whose main body invokes routine 1 `invoked` times, of `routines` routines that return their argument. */
-static size_t code_of_routines(uint8_t *file, unsigned routines, unsigned invoked) {
+/* Code whose main body invokes routine 1 `invoked` times, of `routines` routines that return their argument, over `constants` constants []. */
+static size_t code_of_routines(uint8_t *file, unsigned constants, unsigned routines, unsigned invoked) {
     unsigned fails = invoked + 2;
-    uint8_t *at = PUT(file, 'E', 'M', 'S', 'C', 0, 2, 0, 0, 0, (uint8_t)(routines + 1), 0, 0, (uint8_t)((invoked + 3) >> 8), (uint8_t)(invoked + 3), 1);
+    uint8_t *at = PUT(file, 'E', 'M', 'S', 'C', 0, 2, (uint8_t)(constants >> 8), (uint8_t)constants);
+    memset(at, 5, constants);
+    at = PUT(at + constants, 0, (uint8_t)(routines + 1), 0, 0, (uint8_t)((invoked + 3) >> 8), (uint8_t)(invoked + 3), 1);
     for (unsigned i = 0; i < invoked; i++)
         at = PUT(at, 26, 0, 1, (uint8_t)(fails >> 8), (uint8_t)fails);
     at = PUT(at, 24, 25, 0, 1, (uint8_t)(fails >> 8), (uint8_t)fails, 0, 0, 0, 0, 0, 0);
@@ -97,14 +99,19 @@ static size_t code_of_routines(uint8_t *file, unsigned routines, unsigned invoke
     return (size_t)(at - file);
 }
 
-/* Routines: what they take when they are read goes with the file, and what a run takes doesn't go with how often one is invoked. */
+/* Routines: what they take when they are read goes with the file, and so with the constants once; what a run takes doesn't go with how often one
+ * is invoked. */
 static void try_routines(void) {
     struct cutterash_filter filter = {0};
-    size_t length = code_of_routines(room, 254, 1), before = asked_for;
+    size_t length = code_of_routines(room, 0, 254, 1), before = asked_for;
     HOLDS(cutterash_load(&filter, room, length).status == CUTTERASH_DONE);
     is_within("load 254 routines", before, 4096 + 254 * 1024);
+    length = code_of_routines(room, 60000, 254, 1);
+    before = asked_for;
+    HOLDS(cutterash_load(&filter, room, length).status == CUTTERASH_DONE);
+    is_within("load 254 routines over 60,000 constants", before, 4096 + 254 * 1024 + 128 * 60000);
     for (unsigned invoked = 1; invoked <= 10000; invoked *= 100) {
-        length = code_of_routines(room, 1, invoked);
+        length = code_of_routines(room, 0, 1, invoked);
         HOLDS(cutterash_load(&filter, room, length).status == CUTTERASH_DONE);
         length = sprintf(text, "a.");
         before = asked_for;
