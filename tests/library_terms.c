@@ -86,7 +86,7 @@ static bool is_open(struct cutterash_reply reply, const struct loading *loading)
     return reply.count == 2 && loading->filter.is_open;
 }
 
-/* Makes a call with one more request granted each time, until none is refused: the one after these alone is refused, and then all after these.
+/* Makes a call with one more allocation succeeding each time, until none fails: the next one fails alone, and then it and all later ones.
  * The call is out of memory, or done and right. */
 static void refuse_each(struct cutterash_reply (*call)(void *), struct loading *with,
                         bool (*is_right)(struct cutterash_reply, const struct loading *)) {
@@ -132,7 +132,7 @@ static void try_constant(void) {
     HOLDS_HERE(in_use == held);
 }
 
-/* As a key and within the objects of a table, which a run leaves as it was, or at its beginning with the replies before, or obeys whole. */
+/* As a key and within the objects of a table, which a run leaves as it was, or at its beginning with the earlier replies, or executes whole. */
 static void try_table(const char *open_text) {
     struct cutterash_table table = {0};
     long all = in_use;
