@@ -6,7 +6,7 @@
  * Each of them ends with a dot, except an answer; a reply also ends with a line feed. Code files are bytes.
  *
  * The caller's obligations, which nothing checks:
- * - A pointer is never null, and as many bytes are valid there as the length beside it says, also where the length is 0
+ * - A pointer is never null, and as many bytes are valid there as the length next to it says, also if the length is 0
  *   (any pointer will do then). A room, a filter and a table overlap nothing else that is passed to the call.
  * - A filter is zeroed before its first use ("struct cutterash_filter f = {0};"), and after that changed by these
  *   functions alone. It is not copied. One thread at a time calls its functions, one call at a time. The same holds for a
