@@ -1,4 +1,4 @@
-"""The tables of docs/GATE.md that scripts keep: each stands between two comments, and has a row for each crate."""
+"""The tables of docs/GATE.md that scripts keep: each is between two comments, and has a row for each crate."""
 import hashlib
 import os
 import textwrap
@@ -20,7 +20,7 @@ def write(text):
 
 
 def parts(text, table):
-    """What stands before the table's lines, the lines, and what stands behind them."""
+    """The text before the table's lines, the lines, and the text after them."""
     start, end = f"<!-- {table} -->\n", f"<!-- end of {table} -->\n"
     before, rest = text.split(start)
     lines, behind = rest.split(end)
@@ -28,7 +28,7 @@ def parts(text, table):
 
 
 def replace(table, lines):
-    """Writes the lines of a table anew."""
+    """Replaces the lines of a table."""
     before, _, behind = parts(read(), table)
     write(before + "".join(f"{line}\n" for line in lines) + behind)
 
@@ -41,7 +41,7 @@ def crates():
 
 
 def below(name, named):
-    """The crates of the repository that a crate stands on, whether it names them or not."""
+    """The crates of the repository that a crate uses, directly or not."""
     found, waiting = set(), [name]
     while waiting:
         for it in named[waiting.pop()]:

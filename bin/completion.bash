@@ -14,6 +14,9 @@ _ets_tool() {
         mapfile -t COMPREPLY < <(compgen -W 'run test compile verify script shell scan explain help' -- "$word")
     elif [ "${COMP_WORDS[1]}" = scan ] && [ "$before" = --kind ]; then
         mapfile -t COMPREPLY < <(compgen -W 'set bag duplicate_bag' -- "$word")
+    elif [ "$before" = --keypos ] || [ "$before" = --parts ] || [ "$before" = --workers ]; then
+        # A number.
+        return
     elif [ "${COMP_WORDS[1]}" = scan ]; then
         mapfile -t COMPREPLY < <(compgen -W '--kind --keypos --parts --workers --why --help' -- "$word")
     elif [ "${COMP_WORDS[1]}" = run ] || [ "${COMP_WORDS[1]}" = test ]; then

@@ -1,5 +1,5 @@
-/* A filter in C: a specification is compiled to a code file, which may travel from here; who receives it loads it, and asks it about
- * objects. `.ci/library_links` builds and runs this. */
+/* A filter in C: a specification is compiled to a code file, which may be sent anywhere. The receiver loads it, and runs it on objects.
+ * `tests/library_links` builds and runs this. */
 #include "cutterash.h"
 
 #include <stdio.h>
@@ -10,7 +10,7 @@ static const char specification[] = "[{{'_','$1','$2'},[{'>','$2',1904}],['$1']}
 
 static const char *const objects[] = {"{1,ada,1815}.", "{2,alan,1912}.", "{3,alonzo,1903}.", "{4,grace,1906}."};
 
-/* Says that something was refused, as ets_tool does. */
+/* Reports that something was rejected, as ets_tool does. */
 static int refused(const char *what, struct cutterash_reply reply) {
     fprintf(stderr, "%s: error E%u", what, reply.number);
     if (reply.count > 0)

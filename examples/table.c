@@ -1,12 +1,12 @@
-/* A table in C: it is opened, asked and walked by texts of commands, and answers a line for each. `.ci/library_links`
- * builds and runs this. */
+/* A table in C: it is opened, queried and walked by texts of commands, and replies with a line for each.
+ * `tests/library_links` builds and runs this. */
 #include "cutterash.h"
 
 #include <stdio.h>
 #include <stdlib.h>
 #include <string.h>
 
-/* What is asked, one text after the other; the table goes on from text to text. */
+/* The texts, one after the other; the table keeps its state from text to text. */
 static const char *const texts[] = {
     "{open,ordered_set,1,1,1}.",
     "{insert,0,{1,ada,1815}}. {insert,0,{2,alan,1912}}. {insert,0,{3,alonzo,1903}}. {insert,0,{4,grace,1906}}.",
@@ -16,7 +16,7 @@ static const char *const texts[] = {
     "{member,0,5}. {close}.",
 };
 
-/* Writes the lines of the replies, for which there may be no room at first: the table keeps them. */
+/* Writes the lines of the replies. If the room is too small for them, the table keeps them. */
 static int told(struct cutterash_table *table, struct cutterash_reply reply, uint8_t *room) {
     uint8_t *more = NULL;
     if (reply.status == CUTTERASH_NO_ROOM) {

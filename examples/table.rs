@@ -1,5 +1,5 @@
 //! A table in Rust, over the library for C: `Table` is safe, since it meets what `cutterash.h` says that a caller owes.
-//! `.ci/library_links` builds and runs this.
+//! `tests/library_links` builds and runs this.
 
 use std::ffi::c_void;
 

@@ -6,7 +6,7 @@
  * Each of them ends with a dot, except an answer; a reply also ends with a line feed. Code files are bytes.
  *
  * The caller's obligations, which nothing checks:
- * - A pointer is never null, and as many bytes are valid there as the length beside it says, also where the length is 0
+ * - A pointer is never null, and as many bytes are valid there as the length next to it says, also if the length is 0
  *   (any pointer will do then). A room, a filter and a table overlap nothing else that is passed to the call.
  * - A filter is zeroed before its first use ("struct cutterash_filter f = {0};"), and after that changed by these
  *   functions alone. It is not copied. One thread at a time calls its functions, one call at a time. The same holds for a
@@ -71,7 +71,8 @@ void cutterash_close(struct cutterash_filter *filter);
 
 /* A table handle, open or closed. Zeroed, it is closed. An open one owns memory until it is closed. It executes
  * commands, among them one that creates its table of ets and one that deletes it ("{open,set,1,1,1}.", "{close}.",
- * docs/TABLES.md). */
+ * docs/TABLES.md). An integer key is its own hash: if integer keys step by a power of two, take a number of parts that is
+ * none ("{open,set,1,61,1}."), so that they are not all in one part. */
 struct cutterash_table {
     void *engine;
     bool is_open;

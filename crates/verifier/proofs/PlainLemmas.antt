@@ -140,11 +140,3 @@ plain_typed p shapes plain =
     by : (b n : ℕ) → n ≤ most_budget → slice_index (n ∷ []) b ≤ most_budget
     by zero n low = low
     by (suc b) n low = omega (arith, get_or_past {X = ℕ} (n ∷ []) (suc b) 0 (omega arith))
-
--- ---- what code without routines gets from its main body
-
-    by : (shapes : ℕ → Shape) (pc : ℕ) (i : Instr) (m : ℕ) → IsPlaced p i → ((k : ℕ) → IsOwnDepthAt p shapes pc i k → k ≤ m) → IsDepthAt p ds shapes pc i m → IsOwnDepthAt p shapes pc i m
-    by shapes pc i m at low (inl own) = own
-    by shapes pc i m at low (inr inner) =
-        let none = plain_inner p ds i (shapes pc) plain at in
-        inl (omega (arith, inner, none, low (length (shapes pc).kinds) (inl refl)))

@@ -5,6 +5,7 @@ ghost use Rattle.mcode.specs.Program.{place_number, body_of};
 ghost use Rattle.verifier.specs.Faults.{IsFirstUnfit, IsFirstUntyped, IsBodyFault, IsBodyOver, IsFirstFault};
 ghost use Rattle.verifier.specs.Pass.{IsWalked};
 ghost use Rattle.verifier_types.specs.Fit.{IsFrameFit};
+ghost use Rattle.verifier_types.specs.Needed.{AreCounts};
 ghost use Rattle.verifier.specs.Typing.{IsTyped};
 ghost use Rattle.verifier.specs.Verified.{IsTable, AreTables, IsFound, IsStart, IsKnown, IsVerified};
 ghost use Rattle.mcode_fused.specs.Ops.{AreOps};
@@ -59,22 +60,23 @@ fn check_frames<A: Allocator>(body: &Body<'_, A>, frames: &[Frame<A>]) -> Result
     Ok(())
 }
 
-/// Types each instruction in turn, given the depths of the bodies with higher numbers (`behind`). Fails with the first
-/// fault, or if an allocation fails.
+/// Types each instruction in turn, given the numbers of the constants' keys and the depths of the bodies with higher
+/// numbers (`behind`). Fails with the first fault, or if an allocation fails.
 fn walk_through<A: Allocator + Copy>(
     alloc: A,
     body: &Body<'_, A>,
+    counts: &[Option<usize>],
     behind: &[u16],
 ) -> Result<Walk<A>, Fault>
-    requires { All (IsFrameFit body.now) body.now.frames }
+    requires counts { AreCounts body.now counts.now }
+    requires frames { All (IsFrameFit body.now) body.now.frames }
     ensures typed { IfOk result (λ w. IsWalked body.now behind.now (length body.now.instructions) w.falls
         w.shape w.depths.items w.own w.inner) }
     ensures fault { IfErr result (λ fault. (fault ≡ Memory) ⊎ IsFirstUntyped body.now behind.now fault) }
 {
-    let counts = key_counts(alloc, body.constants())?;
     let mut walk = Walk::start(alloc, body)?;
     for pc in 0..body.instructions().len() {
-        step(body, counts.as_slice(), behind, pc as u16, &mut walk)?;
+        step(body, counts, behind, pc as u16, &mut walk)?;
     }
     Ok(walk)
 }
@@ -87,14 +89,16 @@ struct Found<A: Allocator> {
     budget: u32,
 }
 
-/// Checks a body and returns the findings about it, given the depths and the budgets of bodies with higher numbers.
-/// Fails with its first fault, or if an allocation fails.
+/// Checks a body and returns the findings about it, given the numbers of the constants' keys, and the depths and the
+/// budgets of bodies with higher numbers. Fails with its first fault, or if an allocation fails.
 fn find_out<A: Allocator + Copy>(
     alloc: A,
     body: &Body<'_, A>,
+    counts: &[Option<usize>],
     depths: &[u16],
     budgets: &[u32],
 ) -> Result<Found<A>, Fault>
+    requires { AreCounts body.now counts.now }
     ensures typed { IfOk result (λ f. IsFound body.now depths.now budgets.now f.table f.depth f.budget) }
     ensures fault { IfErr result (λ fault. (fault ≡ Memory) ⊎ (IsBodyFault body.now depths.now fault
         ⊎ IsBodyOver body.now depths.now budgets.now fault)) }
@@ -103,7 +107,7 @@ fn find_out<A: Allocator + Copy>(
     if body.instructions().is_empty() {
         return Err(Fault::FallsOff(0));
     }
-    let walk = walk_through(alloc, body, depths)?;
+    let walk = walk_through(alloc, body, counts, depths)?;
     let Some(budget) = budget_of(alloc, body, budgets)? else {
         return Err(Fault::Budget);
     };
@@ -154,9 +158,11 @@ fn note_table<A: Allocator>(
 fn learn<A: Allocator + Copy>(
     alloc: A,
     code: &Code<A>,
+    counts: &[Option<usize>],
     number: u16,
     known: &mut Known<A>,
 ) -> Result<Table<A>, Fault>
+    requires counts { AreCounts code.now counts.now }
     requires inside { number ≤ length code.now.around.routines }
     requires known { IsKnown code.now (number + 1) known.old.depths.items known.old.budgets.items }
     ensures known { OnOk result (IsKnown code.now number known.new.depths.items known.new.budgets.items) }
@@ -167,6 +173,7 @@ fn learn<A: Allocator + Copy>(
     let found = find_out(
         alloc,
         &Body::of(code, number),
+        counts,
         known.depths.as_slice(),
         known.budgets.as_slice(),
     )?;
@@ -179,9 +186,11 @@ fn learn<A: Allocator + Copy>(
 fn learn_routine<A: Allocator + Copy>(
     alloc: A,
     code: &Code<A>,
+    counts: &[Option<usize>],
     number: u16,
     known: &mut Known<A>,
 ) -> Result<(), Fault>
+    requires counts { AreCounts code.now counts.now }
     requires inside { number ≤ length code.now.around.routines }
     requires known { IsKnown code.now (number + 1) known.old.depths.items known.old.budgets.items }
     requires tables { AreTables code.now (number + 1) known.old.tables.items }
@@ -189,13 +198,19 @@ fn learn_routine<A: Allocator + Copy>(
     ensures tables { OnOk result (AreTables code.now number known.new.tables.items) }
     ensures fault { IfErr result (λ fault. (fault ≡ Memory) ⊎ IsFirstFault code.now number fault) }
 {
-    let table = learn(alloc, code, number, known)?;
+    let table = learn(alloc, code, counts, number, known)?;
     note_table(&mut known.tables, table)?;
     Ok(())
 }
 
-/// Checks all routines, the last first. Fails with the first fault and its body, or if an allocation fails.
-fn learn_routines<A: Allocator + Copy>(alloc: A, code: &Code<A>) -> Result<Known<A>, BodyFault>
+/// Checks all routines, the last first, given the numbers of the constants' keys. Fails with the first fault and its
+/// body, or if an allocation fails.
+fn learn_routines<A: Allocator + Copy>(
+    alloc: A,
+    code: &Code<A>,
+    counts: &[Option<usize>],
+) -> Result<Known<A>, BodyFault>
+    requires { AreCounts code.now counts.now }
     ensures known { IfOk result (λ k. IsKnown code.now 1 k.depths.items k.budgets.items) }
     ensures tables { IfOk result (λ k. AreTables code.now 1 k.tables.items) }
     ensures fault { IfErr result (λ told. (told.fault ≡ Memory) ⊎ IsFirstFault code.now told.body told.fault) }
@@ -203,7 +218,7 @@ fn learn_routines<A: Allocator + Copy>(alloc: A, code: &Code<A>) -> Result<Known
     let count = code.routines().len();
     let mut known = start(alloc, count + 1)?;
     for number in (1..count + 1).rev() {
-        if let Err(fault) = learn_routine(alloc, code, number as u16, &mut known) {
+        if let Err(fault) = learn_routine(alloc, code, counts, number as u16, &mut known) {
             return Err(BodyFault {
                 fault,
                 body: number as u16,
@@ -230,8 +245,9 @@ fn find_all<A: Allocator + Copy>(alloc: A, code: &Code<A>) -> Result<Findings<A>
     ensures ops { IfOk result (λ f. AreOps code.now.instructions f.ops.items) }
     ensures fault { IfErr result (λ told. (told.fault ≡ Memory) ⊎ IsFirstFault code.now told.body told.fault) }
 {
-    let mut known = learn_routines(alloc, code)?;
-    let main = match learn(alloc, code, 0, &mut known) {
+    let counts = key_counts(alloc, code.constants())?;
+    let mut known = learn_routines(alloc, code, counts.as_slice())?;
+    let main = match learn(alloc, code, counts.as_slice(), 0, &mut known) {
         Ok(table) => table,
         Err(fault) => return Err(BodyFault { fault, body: 0 }),
     };

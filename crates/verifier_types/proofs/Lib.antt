@@ -1,4 +1,5 @@
 pub mod ShapeLemmas
+pub mod CursorLemmas
 pub mod KeyLemmas
 pub mod FrameLemmas
 pub mod LeavingLemmas

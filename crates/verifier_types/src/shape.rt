@@ -1,10 +1,11 @@
 //! What is known of a state of the machine.
-ghost use Rattle.std.specs.Prelude.{◌≡◌, ◌<◌, ◌≤◌, ◌↔◌, ◌+◌, ◌∷◌, ◌++◌, [], IsTrue, All, OnOk, OnErr, IfOk, false, true, Some, length, drop, slice_get, replicate};
+ghost use Rattle.std.specs.Prelude.{◌≡◌, ◌<◌, ◌≤◌, ◌↔◌, ◌+◌, ◌∷◌, ◌++◌, [], IsTrue, IfSome, All, OnOk, OnErr, IfOk, false, true, Some, length, drop, take, slice_get, replicate};
 ghost use Rattle.mcode.specs.Frame.{frame_of};
 ghost use Rattle.mcode.specs.Kind.{is_below as is_kind_below};
 ghost use Rattle.mcode.specs.Program.{Rise, place_number};
 ghost use Rattle.verifier_types.specs.Shape.{Shape, place_kind as kind_of_place, frame_kinds, is_bound, marked};
 ghost use Rattle.verifier_types.specs.Kept.{AreKept, AreListedAbove, IsReaching};
+ghost use Rattle.mcode.specs.declared.kind.Kind.TheVariants as kinds;
 
 use mcode::{Frame, Kind};
 use std::alloc::{AllocError, Allocator};
@@ -88,14 +89,74 @@ fn push_place<A: Allocator>(
     }
 }
 
+/// Returns how many places at the front of both lists are the same, with the same kinds.
+fn same_front(places: &[(u16, Kind)], listed: &[(u16, Kind)]) -> usize
+    ensures places { result ≤ length places.now }
+    ensures listed { result ≤ length listed.now }
+    ensures same { take result places.now ≡ take result listed.now }
+{
+    let most = places.len().min(listed.len());
+    for index in 0..most {
+        if places[index].0 != listed[index].0 || places[index].1 != listed[index].1 {
+            return index;
+        }
+    }
+    most
+}
+
+/// Returns the index of the first place with this number or a greater one, the number of places if there is none. All
+/// places before `from` have smaller numbers.
+fn skip_below(places: &[(u16, Kind)], from: usize, number: u16) -> usize
+    requires { All (λ place. place_number place < number) (take from places.now) }
+    ensures before { All (λ place. place_number place < number) (take result places.now) }
+    ensures here { IfSome (slice_get places.now result) (λ place. number ≤ place_number place) }
+{
+    for index in from..places.len() {
+        if places[index].0 >= number {
+            return index;
+        }
+    }
+    places.len()
+}
+
+/// Returns whether the place at this index, if there is one, has this number and this kind.
+fn is_at(places: &[(u16, Kind)], index: usize, place: (u16, Kind)) -> bool
+    ensures { IsTrue result ↔ (slice_get places.now index ≡ Some place) }
+{
+    match places.get(index) {
+        Some(found) => found.0 == place.0 && found.1 == place.1,
+        None => false,
+    }
+}
+
+/// Returns whether this is the kind of any term.
+fn is_any(kind: Kind) -> bool
+    ensures { IsTrue result ↔ (kind ≡ kinds.Any) }
+{
+    matches!(kind, Kind::Any)
+}
+
 /// Returns whether the kind of each listed place is, among these places, equal to the listed kind or below it.
+///
+/// Goes through both once. Never inlined: inside a larger function its loops take twice as long.
+#[inline(never)]
 fn listed_above(places: &[(u16, Kind)], listed: &[(u16, Kind)]) -> bool
-    requires { Rise place_number places.now }
+    requires places { Rise place_number places.now }
+    requires listed { Rise place_number listed.now }
     ensures { IsTrue result ↔ AreListedAbove places.now listed.now }
 {
-    listed
-        .iter()
-        .all(|entry| is_below(place_kind(places, entry.0), entry.1))
+    let front = same_front(places, listed);
+    let mut next = front;
+    for index in front..listed.len() {
+        let entry = listed[index];
+        next = skip_below(places, next, entry.0);
+        if is_at(places, next, entry) {
+            next += 1;
+        } else if !is_any(entry.1) {
+            return false;
+        }
+    }
+    true
 }
 
 /// Returns whether a slot exists and is bound.

@@ -1,5 +1,9 @@
+use Rattle.mcode.proofs.BodyLemmas.{constants_of_body}
 use Rattle.verifier.proofs.VerifiedLemmas.{known_more}
 use Rattle.verifier.proofs.verification.learn.Goals as goal
+
+pub find_out-requires : goal.find_out-requires
+find_out-requires g c = rw (c.of.ensures, constants_of_body c.args.code.now c.args.number) c.requires.counts
 
 pub returns-clause-known : goal.returns-clause-known
 returns-clause-known g c =

@@ -1,5 +1,5 @@
-/* Tries what no clause says of the library for C: that C reaches it, that calls succeed, that no block is lost over many of them, and that
- * each request for memory may be refused. Silent where all is as it should be. Linked with --wrap for malloc, realloc and free. */
+/* Tries what no contract says of the library for C: that C reaches it, that calls succeed, that no block is lost over many of them, and that
+ * each allocation may fail. Silent if all is as it should be. Linked with --wrap for malloc, realloc and free. */
 #include "cutterash.h"
 #include "refusing.h"
 
@@ -19,14 +19,14 @@ static bool is(struct cutterash_reply reply, unsigned status, unsigned number, u
            reply.second == second && reply.length == length;
 }
 
-/* A refusal with this number and these arguments. */
+/* An error with this number and these arguments. */
 static bool refuses(struct cutterash_reply reply, unsigned number, unsigned count, uint64_t first, uint64_t second) {
     return is(reply, CUTTERASH_REFUSED, number, count, first, second, 0);
 }
 
 static const char years[] = "[{{'_','$1','$2'},[{'>','$2',1904}],[{{'$1',\"year\"}}]}].";
 
-/* Texts that are refused, and a room that is too small. */
+/* Invalid texts, and a room that is too small. */
 static void try_compile(void) {
     uint8_t room[512], before[512];
     memset(room, 0x5a, sizeof room);
@@ -47,7 +47,7 @@ static void try_compile(void) {
     HOLDS(memcmp(room, "EMSC", 4) == 0 && memcmp(room + length, before, sizeof room - length) == 0);
 }
 
-/* Files that are refused: the beginnings of a good one, and each that differs from it in a byte is loaded or refused. */
+/* Files that are rejected: the beginnings of a good one; each that differs from it in a byte is loaded or rejected. */
 static void try_load(const uint8_t *file, size_t length) {
     struct cutterash_filter filter = {0};
     uint8_t room[64], changed[512];
@@ -75,7 +75,7 @@ static void try_load(const uint8_t *file, size_t length) {
     cutterash_close(&filter);
 }
 
-/* A filter that is closed, objects that are refused, answers that have no room. */
+/* A filter that is closed, invalid objects, answers that don't fit the room. */
 static void try_run(const uint8_t *file, size_t length) {
     struct cutterash_filter filter = {0};
     uint8_t room[32], before[32];
@@ -98,7 +98,7 @@ static void try_run(const uint8_t *file, size_t length) {
     HOLDS(is(run(&filter, "{2,alan,1912}.", room, sizeof room), CUTTERASH_CLOSED, 0, 0, 0, 0, 0));
 }
 
-/* Each request for memory is refused in turn; the filter stays as it was where a run is refused. */
+/* Each allocation fails in turn; the filter is unchanged if a run fails. */
 static void try_memory(const uint8_t *file, size_t length) {
     uint8_t room[512];
     struct cutterash_filter filter = {0};
@@ -134,7 +134,7 @@ static void try_memory(const uint8_t *file, size_t length) {
     cutterash_close(&filter);
 }
 
-/* So many calls, over which no block is lost. */
+/* This many calls, over which no block is lost. */
 static void try_many(const uint8_t *file, size_t length, long calls) {
     uint8_t room[64];
     struct cutterash_filter filter = {0};
@@ -154,12 +154,12 @@ static struct cutterash_reply obey(struct cutterash_table *table, const char *te
     return cutterash_table_run(table, (const uint8_t *)text, strlen(text), room, length);
 }
 
-/* A reply of so many bytes, which stand at the front of the room. */
+/* A reply of this many bytes, which are at the front of the room. */
 static bool answers(struct cutterash_reply reply, const char *lines, const uint8_t *room) {
     return is(reply, CUTTERASH_DONE, 0, 0, 0, 0, strlen(lines)) && memcmp(room, lines, strlen(lines)) == 0;
 }
 
-/* Tables that are closed, no text and no room, texts that are refused, replies that have no room. */
+/* Tables that are closed, no text and no room, invalid texts, replies that don't fit the room. */
 static void try_table(void) {
     struct cutterash_table table = {0};
     long held = in_use;
@@ -182,12 +182,12 @@ static void try_table(void) {
     HOLDS(answers(obey(&table, "{insert,0,{1,a}}. {insert,1,{1,b}}. {insert,0,{7}}. {fix,0}.", room, sizeof room),
                   "true.\ntrue.\ntrue.\ntrue.\n", room));
 
-    /* A text that is refused changes nothing: none of its commands is obeyed, and the lines stay. */
+    /* An invalid text changes nothing: none of its commands is executed, and the lines are kept. */
     HOLDS(refuses(obey(&table, "{delete,0,1}. {delete,0", room, sizeof room), 5, 1, 23, 0));
     HOLDS(refuses(obey(&table, "{delete,0,1}. \377.", room, sizeof room), 6, 1, 14, 0));
     HOLDS(answers(cutterash_table_replies(&table, room, sizeof room), "true.\ntrue.\ntrue.\ntrue.\n", room));
 
-    /* Lines without room are kept, and the commands are obeyed. */
+    /* Lines that don't fit are kept, and the commands are executed. */
     memset(room, 0x5a, sizeof room);
     HOLDS(is(obey(&table, "{take,0,1}. {select,0,[{'_',[],['$_']}],1}.", room, 8), CUTTERASH_NO_ROOM, 0, 0, 0, 0, 20));
     HOLDS(is(cutterash_table_replies(&table, room, 19), CUTTERASH_NO_ROOM, 0, 0, 0, 0, 20));
@@ -197,7 +197,7 @@ static void try_table(void) {
     HOLDS(answers(obey(&table, "{more,0,0}. {more,0,0}. {member,0,1}. {close}. {close}.", room, sizeof room),
                   "'$end_of_table'.\n{error,62}.\nfalse.\n[{7}].\n{error,65}.\n", room));
 
-    /* What an open table keeps is let go when it is opened again. */
+    /* What an open table has is freed when it is opened again. */
     HOLDS(answers(obey(&table, "{open,bag,1,1,1}. {insert,0,{1}}.", room, sizeof room), "true.\ntrue.\n", room));
     HOLDS(is(cutterash_table_open(&table), CUTTERASH_DONE, 0, 0, 0, 0, 0));
     HOLDS(answers(cutterash_table_replies(&table, room, sizeof room), "", room));
@@ -208,7 +208,7 @@ static void try_table(void) {
     HOLDS(in_use == held);
 }
 
-/* What is asked where requests for memory are refused in turn, and its replies. */
+/* The commands that run while each allocation fails in turn, and their replies. */
 static const char asked[] =
     "{insert,0,{1,{a,[2,3]}}}. {insert,0,{3,b}}. {lookup,0,1}. {take,0,3}. {first,0}. {next,0,1}. {insert_new,0,{4,c}}. "
     "{select,0,[{{'$1',{a,'_'}},[],['$1']}],1}. {more,0,0}. {select_count,0,[{'_',[],[true]}]}. "
@@ -217,8 +217,8 @@ static const char replied[] =
     "true.\ntrue.\n[{1,{a,[2,3]}}].\n[{3,b}].\n1.\n'$end_of_table'.\ntrue.\n"
     "{[1],0}.\n'$end_of_table'.\n2.\n1.\ntrue.\ntrue.\ntrue.\n[{1,{a,[2,3]}}].\n";
 
-/* Each request for memory is refused in turn. A run that can't read its text leaves the table as it was; one in which memory
- * runs out behind that leaves it at its beginning, with a beginning of the lines. */
+/* Each allocation fails in turn. A run that can't read its text leaves the table as it was; one in which memory
+ * runs out later leaves it at its beginning, with the first of the lines. */
 static void try_table_memory(const char *open_text) {
     uint8_t room[512];
     struct cutterash_table table = {0};
@@ -257,7 +257,7 @@ static void try_table_memory(const char *open_text) {
     HOLDS(in_use == all);
 }
 
-/* So many calls of a table, over which no block is lost; one that is opened again has as many as at first. */
+/* This many calls of a table, over which no block is lost; one that is opened again has as many as at first. */
 static void try_table_many(const char *open_text, long calls) {
     static const char *const texts[] = {"{insert,0,{1,[a,{b,\"cd\"}]}}.", "{lookup,0,1}.", "{insert,0,{2,b}}. {delete,0,2}.", "{lookup,0",
                                         "{select,0,[{{'$1','_'},[],['$1']}]}."};

@@ -1,8 +1,8 @@
 /* Terms of every form in memory, through the library for C: each is read, run, written, inserted, looked up, matched, deleted, compiled as a
- * constant and loaded, with each request for memory refused in turn, alone and with all after it. Refused or not, what is answered is the term,
- * nothing is lost, and no block stays. Silent where all is as it should be.
+ * constant and loaded, with each allocation failing in turn, alone and with all after it. In each case the answer is the term, nothing is lost,
+ * and no block stays. Silent if all is as it should be.
  *
- * usage: library_terms FILE     FILE: a term a line, as it is written (`.ci/terms_agree --texts`) */
+ * usage: library_terms FILE     FILE: a term a line, as it is written (`tests/terms_agree --texts`) */
 #include "cutterash.h"
 #include "refusing.h"
 
@@ -67,7 +67,7 @@ static struct cutterash_reply obey_text(void *with) {
     return cutterash_table_run(with, (const uint8_t *)text.bytes, text.length, room, sizeof room);
 }
 
-/* Whether the pattern, spelled, stands at the front of the room. */
+/* Whether the pattern, spelled, is at the front of the room. */
 static bool is_at_front(struct cutterash_reply reply, const char *pattern) {
     spell(&wanted, pattern);
     return reply.length == wanted.length && memcmp(room, wanted.bytes, reply.length) == 0;
@@ -86,7 +86,7 @@ static bool is_open(struct cutterash_reply reply, const struct loading *loading)
     return reply.count == 2 && loading->filter.is_open;
 }
 
-/* Makes a call with one more request granted each time, until none is refused: the one after these alone is refused, and then all after these.
+/* Makes a call with one more allocation succeeding each time, until none fails: the next one fails alone, and then it and all later ones.
  * The call is out of memory, or done and right. */
 static void refuse_each(struct cutterash_reply (*call)(void *), struct loading *with,
                         bool (*is_right)(struct cutterash_reply, const struct loading *)) {
@@ -132,7 +132,7 @@ static void try_constant(void) {
     HOLDS_HERE(in_use == held);
 }
 
-/* As a key and within the objects of a table, which a run leaves as it was, or at its beginning with the replies before, or obeys whole. */
+/* As a key and within the objects of a table, which a run leaves as it was, or at its beginning with the earlier replies, or executes whole. */
 static void try_table(const char *open_text) {
     struct cutterash_table table = {0};
     long all = in_use;

@@ -109,7 +109,7 @@ def variable(term):
 
 
 def is_free(pattern):
-    """No variable, '_' or map stands in a pattern."""
+    """No variable, '_' or map is in a pattern."""
     if isinstance(pattern, (tuple, list)):
         return all(map(is_free, pattern))
     return not (isinstance(pattern, Map) or pattern == Atom("_") or variable(pattern))

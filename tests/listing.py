@@ -4,7 +4,7 @@ each specification in the rows of `crates/ets_tool` (of queries, scans, and the 
 the file that `compile` writes of it, and of each file in these rows. What is refused is refused as by `compile` or `verify`. Silent where all
 agree.
 
-usage: .ci/listing.py [PROGRAM [EACH]]     EACH: one row of so many is taken, each if none is given"""
+usage: tests/listing.py [PROGRAM [EACH]]     EACH: one row of this many is taken, each if none is given"""
 from concurrent.futures import ThreadPoolExecutor
 from dataclasses import dataclass
 import os
@@ -13,7 +13,7 @@ import subprocess
 import sys
 
 TOP = os.path.dirname(os.path.dirname(os.path.abspath(__file__)))
-sys.path.insert(0, f"{TOP}/.ci")
+sys.path.insert(0, f"{TOP}/tests")
 sys.dont_write_bytecode = True
 from built import PROGRAM, all_right
 
@@ -22,7 +22,7 @@ RESERVED = set(
     "after and andalso band begin bnot bor bsl bsr bxor case catch cond div else end fun if let maybe not of or orelse receive rem try when "
     "xor".split()
 )
-# By its number, an instruction's name and what stands behind it: a constant (c), a slot (v), a number (n), a function and the number of its
+# By its number, an instruction's name and what follows it: a constant (c), a slot (v), a number (n), a function and the number of its
 # arguments (f), a function of two integers (a), and where it leads if it fails (L).
 INSTRUCTIONS = {
     1: ("load", ""), 2: ("const", "c"), 3: ("get", "v"), 4: ("bind", "v"), 5: ("dup", ""), 6: ("drop", ""), 7: ("tuple", "nL"),
@@ -163,7 +163,7 @@ class Reader:
             raise NoText(sign)
 
     def row(self, end, item):
-        """What stands between commas, up to a sign."""
+        """What is between commas, up to a sign."""
         if self.takes(end):
             return []
         row = [item()]
@@ -238,7 +238,7 @@ def variables_in(pattern):
 
 
 def is_free(pattern):
-    """No variable, '_' or map stands in a pattern."""
+    """No variable, '_' or map is in a pattern."""
     if pattern.kind in ("tuple", "list"):
         return all(map(is_free, pattern.parts))
     return not (pattern.kind == "map" or pattern == atom("_") or is_variable(pattern))
@@ -287,7 +287,7 @@ class File:
                     self.kind()
                 self.number(2)
                 self.bodies.append(self.instructions())
-        assert self.at == len(data), "bytes behind the code"
+        assert self.at == len(data), "bytes after the code"
 
     def bytes(self, count):
         self.at += count
@@ -320,7 +320,7 @@ class File:
         return binary(self.bytes(self.number(4)))
 
     def operand(self, form):
-        """The text of what stands behind an instruction's name, a slot as its number."""
+        """The text of what follows an instruction's name, a slot as its number."""
         if form == "c":
             return self.constants[self.number(2)].text
         if form == "v":
@@ -333,7 +333,7 @@ class File:
         return str(self.number(2))
 
     def instructions(self):
-        """Each instruction's name, its operand or none, and where it leads otherwise or none; behind them the frames, which are passed."""
+        """Each instruction's name, its operand or none, and where it leads otherwise or none; after them the frames, which are passed."""
         row = []
         for _ in range(self.number(2)):
             name, forms = INSTRUCTIONS[self.number(1)]
@@ -424,7 +424,7 @@ def specification_agrees(program, text):
 
 
 def inputs_of(name):
-    """The inputs of the rows of a file of `crates/ets_tool`, each behind the words of its row."""
+    """The inputs of the rows of a file of `crates/ets_tool`, each after the words of its row."""
     words, text = "", ""
     with open(f"{TOP}/crates/ets_tool/{name}", encoding="utf-8") as file:
         for line in [*file.read().split("\n"), ""]:
@@ -485,7 +485,7 @@ def main(words):
     texts = list(dict.fromkeys(f"{term.text}.\n" for term in rows))[::each]
     files = [text for text in texts if text.startswith("<<")]
     if len(texts) * each < 2600 or len(files) * each < 1300:
-        print(f".ci/listing.py: no more than {len(texts)} rows, {len(files)} of them files", file=sys.stderr)
+        print(f"tests/listing.py: no more than {len(texts)} rows, {len(files)} of them files", file=sys.stderr)
         return 1
     with ThreadPoolExecutor(os.cpu_count()) as pool:
         right = list(pool.map(lambda it: (file_agrees if it.startswith("<<") else specification_agrees)(program, it), texts))

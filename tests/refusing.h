@@ -1,4 +1,4 @@
-/* Has requests for memory refused, and counts their bytes: linked with --wrap for malloc, realloc and free. Each program includes this once. */
+/* Makes allocations fail, and counts their bytes: linked with --wrap for malloc, realloc and free. Each program includes this once. */
 #include <stdbool.h>
 #include <stdio.h>
 #include <stdlib.h>
@@ -13,20 +13,20 @@ static int failed = 0;
         }                                                              \
     } while (0)
 
-/* How many more requests for memory are granted before one is refused; negative where none is refused. */
+/* How many more allocations succeed before one fails; negative if none fails. */
 static long given = -1;
 
-/* Whether one request is refused alone, or all after it, too. */
+/* Whether one allocation fails alone, or all later ones, too. */
 static bool is_alone = false;
 
-/* Requests that were refused. */
+/* Allocations that failed. */
 static long refused = 0;
 
 /* Blocks that are in use. */
 static long in_use = 0;
 
-/* Bytes that were asked for, those of blocks that were freed since included. */
-static size_t asked_for = 0;
+/* Bytes that were requested, including those of blocks that were freed since. */
+static size_t requested = 0;
 
 void *__real_malloc(size_t size);
 void *__real_realloc(void *block, size_t size);
@@ -44,14 +44,14 @@ static bool is_refused(void) {
 }
 
 void *__wrap_malloc(size_t size) {
-    asked_for += size;
+    requested += size;
     void *block = is_refused() ? NULL : __real_malloc(size);
     in_use += block != NULL;
     return block;
 }
 
 void *__wrap_realloc(void *old, size_t size) {
-    asked_for += size;
+    requested += size;
     void *block = is_refused() ? NULL : __real_realloc(old, size);
     in_use += block != NULL && old == NULL;
     return block;

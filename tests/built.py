@@ -1,4 +1,4 @@
-"""The built program that the scripts beside this try, and how many checks they made."""
+"""The built program that the scripts in this folder try, and how many checks they made."""
 import os
 
 TOP = os.path.dirname(os.path.dirname(os.path.abspath(__file__)))
