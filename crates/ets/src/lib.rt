@@ -21,7 +21,8 @@ pub mod term {
 /// The text of terms, as in `{1,ada,[2,3]}.`: read and written.
 pub mod text {
     pub use term_text::{
-        Form, TextFault, next_term, read_terms, text_of, write_as, write_binary, write_term,
+        Form, Scratch, TextFault, next_term, read_terms, text_of, write_as, write_binary,
+        write_term,
     };
 }
 

@@ -26,3 +26,4 @@ pub mod AddedLemmas
 mod ByteWords
 mod QuotedRuns
 mod Places
+mod Stacks

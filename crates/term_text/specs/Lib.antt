@@ -3,6 +3,7 @@ pub mod Tokens
 pub mod TokenReading
 pub mod Text
 pub mod Reading
+pub mod Stack
 pub mod Causes
 pub mod Canonical
 pub mod Fault

@@ -83,7 +83,7 @@ pub fn short_word<A: Allocator + Copy>(alloc: A, text: &str) -> Option<(Term<A>,
 
 /// Reads a bare word as a term.
 #[tactic(auto, unfolding(crate::specs::Reading::word_term_at))]
-#[inline(never)]
+#[inline(always)]
 pub fn word_term<A: Allocator + Copy>(alloc: A, text: &str) -> Result<(Term<A>, &str), Stop>
     ensures { Gives (λ x. (x.0, chars x.1.now)) result (word_term_at (chars text.now)) }
 {
@@ -93,7 +93,7 @@ pub fn word_term<A: Allocator + Copy>(alloc: A, text: &str) -> Result<(Term<A>, 
 
 /// Reads a quoted atom, after its opening mark.
 #[tactic(auto, unfolding(crate::specs::Reading::quoted_atom_at))]
-#[inline(never)]
+#[inline(always)]
 pub fn quoted_atom<A: Allocator + Copy>(alloc: A, text: &str) -> Result<(Term<A>, &str), Stop>
     ensures { Gives (λ x. (x.0, chars x.1.now)) result (quoted_atom_at (chars text.now)) }
 {
@@ -223,7 +223,7 @@ fn only_string(text: &str) -> Option<(&str, &str)>
 
 /// Reads a binary, after its opening.
 #[tactic(auto, unfolding(crate::specs::Reading::binary_at))]
-#[inline(never)]
+#[inline(always)]
 pub fn binary<A: Allocator + Copy>(alloc: A, text: &str) -> Result<(Term<A>, &str), Stop>
     ensures { Gives (λ x. (x.0, chars x.1.now)) result (binary_at (chars text.now)) }
 {

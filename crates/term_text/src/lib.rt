@@ -11,8 +11,9 @@
 //!   `proofs/Tokens.antt` and `proofs/Words.antt` prove that they agree, `proofs/QuotedRuns.antt` that quoted characters
 //!   that stand for themselves may be taken as one slice. Why and where reading stops: `stop.rt`.
 //! - Terms, from their tokens: `read.rt`, over `leaf.rt` for terms without parts and `pairs.rt` for the pairs of a
-//!   map, returns what `text_at` of `specs/Reading.antt` gives. `proofs/Short.antt` covers short words, integers and
-//!   the first elements of a row, which have a fast path, and `proofs/Places.antt` a map of few pairs, which is
+//!   map, returns what `text_at` of `specs/Reading.antt` gives. Terms are pushed onto one stack (`scratch.rt`,
+//!   `specs/Stack.antt`, `proofs/Stacks.antt`), and a tuple or a list is made of the last of them. `proofs/Short.antt`
+//!   covers short words and integers, which have a fast path, and `proofs/Places.antt` a map of few pairs, which is
 //!   sorted as it is read, without a tree. What is read is spelled so: `proofs/Sound.antt`. What is spelled is read
 //!   so: `proofs/Whole.antt`. Each term that is made is within its limits: `proofs/Within.antt`,
 //!   `proofs/Constructed.antt`.
@@ -30,6 +31,7 @@ mod law;
 mod leaf;
 mod pairs;
 mod read;
+mod scratch;
 mod stop;
 mod text;
 mod token;
@@ -40,5 +42,6 @@ pub use law::{
     a_text_has_one_fault, a_text_spells_one_list, canonical_text_is_read_back,
     readable_text_is_read_back,
 };
+pub use scratch::Scratch;
 pub use text::{next_term, read_terms, text_of};
 pub use write::{Form, write_as, write_binary, write_readable, write_term};

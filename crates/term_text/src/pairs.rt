@@ -1,10 +1,12 @@
 //! The pairs of a map, in ascending key order.
 ghost use Rattle.std.specs.Prelude.{◌≡◌, true, IfOk, MatchOption, Ok};
+ghost use Rattle.std.specs.List.{AllByRecursion};
 ghost use Rattle.std.specs.List.Sorted.{IsStrictlySortedBy};
 ghost use Rattle.std.specs.Map.{keys_of};
 ghost use Rattle.term_core.specs.Datum.{entries_of};
 ghost use Rattle.term_core.specs.Datum.Datum.{map};
-ghost use Rattle.term_core.specs.MapPairs.{AreRising};
+ghost use Rattle.term_core.specs.Limits.{entries_depth};
+ghost use Rattle.term_core.specs.MapPairs.{AreRising, IsPairSound};
 ghost use Rattle.term_core.specs.Order.{datum_cmp};
 ghost use Rattle.term_text.specs.TokenReading.{Gives};
 ghost use Rattle.term_text.specs.Reading.{IsWithin, IsPlace, has_key};
@@ -13,7 +15,6 @@ use crate::stop::Stop;
 use std::alloc::{AllocError, Allocator};
 use std::cmp::Ordering;
 use std::collections::BTreeMap;
-use term_build::map_of_pairs;
 use term_core::Term;
 
 /// Pairs in ascending key order.
@@ -62,14 +63,29 @@ pub fn in_order<A: Allocator>(alloc: A, pairs: Tree<A>) -> Result<Pairs<A>, Allo
     pairs.into_iter().collect(alloc)
 }
 
+/// Returns the greatest depth of the keys and values of these pairs, 0 if there are none.
+#[inline(always)]
+fn deepest_pair<A: Allocator>(pairs: &[(Term<A>, Term<A>)]) -> u8
+    ensures value { result ≡ entries_depth (entries_of pairs.now) }
+    ensures sound { AllByRecursion IsPairSound pairs.now }
+{
+    let mut deepest = 0;
+    for pair in pairs {
+        deepest = deepest.max(pair.0.depth()).max(pair.1.depth());
+    }
+    deepest
+}
+
 /// Makes the map of these pairs, which are within the limits.
+#[inline(always)]
 pub fn map_of<A: Allocator + Copy>(alloc: A, pairs: Pairs<A>) -> Result<Term<A>, Stop>
     requires within { IsWithin (map (entries_of pairs.items)) }
     requires rising { AreRising (entries_of pairs.items) }
     ensures { Gives (λ t. t) result (Ok (map (entries_of pairs.items))) }
 {
-    match map_of_pairs(alloc, pairs) {
+    let depth = deepest_pair(pairs.as_slice()) + 1;
+    match Term::from_rising(alloc, depth, pairs) {
         Ok(map) => Ok(map),
-        Err(refused) => Err(Stop::from(refused.fault.alloc_error())),
+        Err(_) => Err(Stop::Memory),
     }
 }

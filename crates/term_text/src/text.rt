@@ -1,5 +1,5 @@
 //! Reading a text of terms.
-ghost use Rattle.std.specs.Prelude.{◌≡◌, ◌↔◌, ◌⊎◌, ◌<◌, ◌≤◌, ◌^◌, List, Option, option_map, IfOk, IfErr, ℕ, IsErrOf, MatchResult, Ok, Err, length, take};
+ghost use Rattle.std.specs.Prelude.{◌≡◌, [], ◌↔◌, ◌⊎◌, ◌<◌, ◌≤◌, ◌^◌, List, Option, option_map, IfOk, IfErr, ℕ, IsErrOf, MatchResult, Ok, Err, length, take};
 ghost use Rattle.std.specs.Str.{encode_utf8_all, IsValidUpTo, chars};
 ghost use Rattle.term_core.specs.Datum.{Datum};
 ghost use Rattle.term_text.specs.Text.{Spells, Front, Next};
@@ -12,6 +12,7 @@ ghost use Rattle.term_text.specs.Reading.{text_at};
 use crate::characters::{count, split_first};
 use crate::fault::TextFault;
 use crate::read::{next, terms};
+use crate::scratch::Scratch;
 use crate::stop::{Cause, Stop};
 use std::alloc::Allocator;
 use std::str;
@@ -63,9 +64,11 @@ pub fn text_of(bytes: &[u8]) -> Result<&str, TextFault>
 
 /// Reads the next term, followed by a dot, from `rest`, the end of a text. Returns the term and what follows, or `None`
 /// if only a gap remains. Fails with the first fault, whose byte is counted from the beginning of the whole text, or if
-/// an allocation fails.
+/// an allocation fails. The term is put together in `scratch`, which holds after the call what it held before, and after
+/// a fault nothing.
 pub fn next_term<'t, A: Allocator + Copy>(
     alloc: A,
+    scratch: &mut Scratch<A>,
     text: &str,
     rest: &'t str,
 ) -> Result<Option<(Term<A>, &'t str)>, TextFault>
@@ -80,8 +83,11 @@ pub fn next_term<'t, A: Allocator + Copy>(
     // dots.
     ensures cause { (ds : List Datum) → Front (chars text.now) ds (chars rest.now) → IfErr result
         (λ fault. (fault ≡ TextFault.Memory) ⊎ IsRefusal text.now fault) }
+    // The scratch keeps nothing of what was read, whatever the result.
+    ensures scratch { MatchResult result (λ _. scratch.new.terms.items ≡ scratch.old.terms.items)
+        (λ _. scratch.new.terms.items ≡ []) }
 {
-    match next(alloc, rest) {
+    match next(alloc, scratch, rest) {
         Ok(next) => Ok(next),
         Err(refused) => Err(fault(refused, text)),
     }

@@ -10,7 +10,7 @@ use crate::input::read_whole;
 use std::alloc::Allocator;
 use std::io::Read;
 use term_core::Term;
-use term_text::{TextFault, a_text_has_one_fault, next_term, read_terms};
+use term_text::{Scratch, TextFault, a_text_has_one_fault, next_term, read_terms};
 
 /// Reads to the end of the reader, and returns the terms that the bytes spell: each followed by a dot, at least one.
 /// Rejects an input without a term as a syntax error at its end.
@@ -81,9 +81,10 @@ pub fn text_of(input: &[u8]) -> Result<&str, ToolFault>
 
 /// Returns the next term of `rest`, which a dot follows, and what is left after the dot. Returns `None` if `rest` has
 /// nothing but white space and comments. `rest` has to be what is left of `text`, since the fault's place is a byte
-/// offset in `text`.
+/// offset in `text`. The term is put together in `scratch`.
 pub fn next_of<'t, A: Allocator + Copy>(
     alloc: A,
+    scratch: &mut Scratch<A>,
     text: &str,
     rest: &'t str,
 ) -> Result<Option<(Term<A>, &'t str)>, ToolFault>
@@ -93,7 +94,7 @@ pub fn next_of<'t, A: Allocator + Copy>(
         → IfErr result (IsUnspelled text.now) }
 {
     a_text_has_one_fault();
-    match next_term(alloc, text, rest) {
+    match next_term(alloc, scratch, text, rest) {
         Ok(next) => Ok(next),
         Err(refused) => Err(ToolFault::from(refused)),
     }
@@ -105,7 +106,8 @@ pub fn first_of<A: Allocator + Copy>(alloc: A, text: &str) -> Result<(Term<A>, &
     ensures ok { IfOk result (λ x. Sentence (chars text.now) x.0 (chars x.1.now)) }
     ensures refused { IfErr result (IsUnread text.now) }
 {
-    match next_of(alloc, text, text)? {
+    let mut scratch = Scratch::new(alloc);
+    match next_of(alloc, &mut scratch, text, text)? {
         Some(first) => Ok(first),
         None => Err(ToolFault::Text(TextFault::Syntax(text.len()))),
     }

@@ -16,7 +16,7 @@ use mspec_meaning::evaluate;
 use mspec_syntax::Spec;
 use std::alloc::{AllocError, Allocator};
 use term_core::Term;
-use term_text::Form;
+use term_text::{Form, Scratch};
 use tool_io::{ToolFault, next_of, put_line_in};
 use verifier::Verified;
 
@@ -35,9 +35,10 @@ pub(crate) fn run_lines<A: Allocator + Copy>(
         → IfErr result (IsUnspelled text.now) }
 {
     let mut lines = Vec::new(alloc);
+    let mut scratch = Scratch::new(alloc);
     let mut left = rest;
     loop {
-        let Some((object, after)) = next_of(alloc, text, left)? else {
+        let Some((object, after)) = next_of(alloc, &mut scratch, text, left)? else {
             return Ok(lines);
         };
         put_run(alloc, form, code, object, &mut lines)?;
@@ -75,9 +76,10 @@ pub(crate) fn outcome_lines<A: Allocator + Copy>(
         → IfErr result (IsUnspelled text.now) }
 {
     let mut lines = Vec::new(alloc);
+    let mut scratch = Scratch::new(alloc);
     let mut left = rest;
     loop {
-        let Some((object, after)) = next_of(alloc, text, left)? else {
+        let Some((object, after)) = next_of(alloc, &mut scratch, text, left)? else {
             return Ok(lines);
         };
         put_evaluated(alloc, form, specification, object, &mut lines)?;

@@ -12,7 +12,7 @@ use crate::query::{code_of_query, specification_of};
 use std::alloc::Allocator;
 use std::io::{Read, Write};
 use term_core::Term;
-use term_text::Form;
+use term_text::{Form, Scratch};
 use tool_io::{ToolFault, first_of, next_of, read_whole, text_of, write_lines};
 
 /// Reads a specification or a code file, which is a binary, and objects, up to the reader's end. Writes each answer in
@@ -116,9 +116,10 @@ fn read_on<A: Allocator + Copy>(alloc: A, text: &str, rest: &str) -> Result<(), 
     ensures refused { (ds : List Datum) → Front (chars text.now) ds (chars rest.now)
         → IfErr result (IsUnspelled text.now) }
 {
+    let mut scratch = Scratch::new(alloc);
     let mut left = rest;
     loop {
-        let Some((object, after)) = next_of(alloc, text, left)? else {
+        let Some((object, after)) = next_of(alloc, &mut scratch, text, left)? else {
             return Ok(());
         };
         let_go(object);

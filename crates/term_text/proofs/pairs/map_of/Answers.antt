@@ -1,15 +1,12 @@
-use Rattle.std.proofs.Common.{◌≡◌, refl}
-use Rattle.term_core.specs.Datum.{entries_of}
-use Rattle.term_core.specs.Datum.Datum.{map}
-use Rattle.term_text.proofs.Keys.{map_of_sorted}
-use Rattle.term_text.proofs.Places.{rising_sorted}
-use Rattle.term_text.proofs.Within.{memory_alone_map}
+use Rattle.std.proofs.Common.{◌≤◌, length, arith}
+use Rattle.std.proofs.lemmas.List.Elements.{All-from_recursion}
+use Rattle.term_core.specs.MapPairs.{IsPairSound}
+use Rattle.term_core.proofs.LimitLemmas.{entry_count-entries_of}
 use Rattle.term_text.proofs.pairs.map_of.Goals as goal
 
-pub alloc_error-requires : goal.alloc_error-requires
-alloc_error-requires g c = memory_alone_map c.in-Err.refused.fault c.args.pairs.items c.requires.within (rising_sorted c.args.pairs.items c.requires.rising) c.in-Err.ensures.refused.1
-
-pub returns-in-Ok : goal.returns-in-Ok
-returns-in-Ok g c =
-    let made : map (entries_of c.args.pairs.items) ≡ c.in-Ok.map = c.in-Ok.ensures.only (map (entries_of c.args.pairs.items)) (map_of_sorted c.args.pairs.items (rising_sorted c.args.pairs.items c.requires.rising)) in
-    rw made refl
+pub from_rising-requires-clause-within : goal.from_rising-requires-clause-within
+from_rising-requires-clause-within g c =
+    let deep = rw c.as_slice.ensures.value at c.deepest_pair-depth.ensures.value in
+    let sound = rw c.as_slice.ensures.value at c.deepest_pair-depth.ensures.sound in
+    let few : length c.args.pairs.items ≤ 65535 = omega (arith, entry_count-entries_of c.args.pairs.items, c.requires.within.1) in
+    record { depth = omega (arith, deep); shallow = omega (arith, deep, c.requires.within.0); short = omega (arith, few); sound = All-from_recursion IsPairSound c.args.pairs.items sound }
