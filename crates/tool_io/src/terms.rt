@@ -100,14 +100,27 @@ pub fn next_of<'t, A: Allocator + Copy>(
     }
 }
 
+/// Returns the first term of a text, and what is left after its dot. Returns `None` if there is no term.
+fn first_if_any<A: Allocator + Copy>(
+    alloc: A,
+    text: &str,
+) -> Result<Option<(Term<A>, &str)>, ToolFault>
+    ensures ok { IfOk result (λ next. Next (chars text.now)
+        (option_map (λ x. (x.0, chars x.1.now)) next)) }
+    ensures refused { (ds : List Datum) → Front (chars text.now) ds (chars text.now)
+        → IfErr result (IsUnspelled text.now) }
+{
+    let mut scratch = Scratch::new(alloc);
+    next_of(alloc, &mut scratch, text, text)
+}
+
 /// Returns the first term of a text, and what is left after its dot. A text without a term is a syntax error at its
 /// end.
 pub fn first_of<A: Allocator + Copy>(alloc: A, text: &str) -> Result<(Term<A>, &str), ToolFault>
     ensures ok { IfOk result (λ x. Sentence (chars text.now) x.0 (chars x.1.now)) }
     ensures refused { IfErr result (IsUnread text.now) }
 {
-    let mut scratch = Scratch::new(alloc);
-    match next_of(alloc, &mut scratch, text, text)? {
+    match first_if_any(alloc, text)? {
         Some(first) => Ok(first),
         None => Err(ToolFault::Text(TextFault::Syntax(text.len()))),
     }
