@@ -5,20 +5,20 @@ use Rattle.term_text.proofs.Nexts.{sentence_shorter}
 use Rattle.tool_query.proofs.AnswerLemmas.{answered_none, answered_more, answered_all, answered_front}
 use Rattle.tool_query.proofs.answers.outcome_lines.Goals as goal
 
-pub loop-lines-init : goal.loop-lines-init
-loop-lines-init g c = (search rules, rw c.new-lines.ensures.items (answered_none _ _ (chars c.args.rest.now)))
+pub loop-scratch-init : goal.loop-scratch-init
+loop-scratch-init g c = (search rules, rw c.new-lines.ensures.items (answered_none _ _ (chars c.args.rest.now)))
 
-pub loop-lines-smaller : goal.loop-lines-smaller
-loop-lines-smaller g c = sentence_shorter (rw c.in-Some.is at c.in_ok-object.ensures.ok)
+pub loop-scratch-smaller : goal.loop-scratch-smaller
+loop-scratch-smaller g c = sentence_shorter (rw c.in-Some.is at c.in_ok-object.ensures.ok)
 
-pub loop-lines-preserved : goal.loop-lines-preserved
-loop-lines-preserved g c =
-    (search rules, answered_more _ _ _ _ _ _ _ _ c.loop-lines.invariant.1 (rw c.in-Some.is at c.in_ok-object.ensures.ok) c.in_ok-put_evaluated.ensures)
+pub loop-scratch-preserved : goal.loop-scratch-preserved
+loop-scratch-preserved g c =
+    (search rules, answered_more _ _ _ _ _ _ _ _ c.loop-scratch.invariant.1 (rw c.in-Some.is at c.in_ok-object.ensures.ok) c.in_ok-put_evaluated.ensures)
 
 pub returns-in_err-object-clause-refused : goal.returns-in_err-object-clause-refused
 returns-in_err-object-clause-refused g c =
     let p = err_from_is_err_and c.from_residual.result c.from_residual.ensures.1 in
-    λ ds front. rw (p.1, p.2) (c.in_err-object.ensures.refused _ (answered_front _ _ (chars c.args.text.now) _ _ _ ds front c.loop-lines.invariant.1))
+    λ ds front. rw (p.1, p.2) (c.in_err-object.ensures.refused _ (answered_front _ _ (chars c.args.text.now) _ _ _ ds front c.loop-scratch.invariant.1))
 
 pub returns-in_default-clause-ok : goal.returns-in_default-clause-ok
-returns-in_default-clause-ok g c = answered_all _ _ _ _ _ c.loop-lines.invariant.1 (rw c.in_default.is at c.in_ok-object.ensures.ok)
+returns-in_default-clause-ok g c = answered_all _ _ _ _ _ c.loop-scratch.invariant.1 (rw c.in_default.is at c.in_ok-object.ensures.ok)

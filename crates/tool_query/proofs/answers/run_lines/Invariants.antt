@@ -7,8 +7,8 @@ use Rattle.tool_query.specs.Answers.Report.{answers}
 use Rattle.tool_query.proofs.AnswerLemmas.{Answered}
 use Rattle.tool_query.proofs.answers.run_lines.Given as goal
 
-abbrev pub invariant-loop-lines : goal.invariant-loop-lines
-invariant-loop-lines g l = shadow (Utf8 l.left) × Answered (answers l.form) (λ object answer. answer ≡ answer_of l.code object) (chars l.fn.rest) (chars l.left) l.lines.items
+abbrev pub invariant-loop-scratch : goal.invariant-loop-scratch
+invariant-loop-scratch g l = shadow (Utf8 l.left) × Answered (answers l.form) (λ object answer. answer ≡ answer_of l.code object) (chars l.fn.rest) (chars l.left) l.lines.items
 
-abbrev pub decreases-loop-lines : goal.decreases-loop-lines
-decreases-loop-lines g l = length (chars l.left)
+abbrev pub decreases-loop-scratch : goal.decreases-loop-scratch
+decreases-loop-scratch g l = length (chars l.left)
