@@ -57,11 +57,12 @@ fn put_code<A: Allocator, B: Allocator>(
 }
 
 /// Returns the one code file of this code. Fails if an allocation fails. Code without routines that has an instruction
-/// that only code with routines may have has no file: readers reject what is written for it, as `verify` rejects the
-/// code.
+/// that only code with routines may have has no file: readers reject the bytes that are returned for it, which have the
+/// form of a file otherwise, as `verify` rejects the code.
 #[tactic(auto, using(crate::proofs::FileLemmas::file_spells))]
 pub fn encode<A: Allocator + Copy>(alloc: A, code: &Code<A>) -> Result<Vec<u8, A>, AllocError>
     ensures ok { IfOk result (λ bytes. HasFile code.now → Spells bytes.items code.now) }
+    ensures file { IfOk result (λ bytes. IsFileOf code.now bytes.items) }
 {
     let mut file = Vec::new(alloc);
     if code.routines().is_empty() {
