@@ -322,7 +322,9 @@ class File:
     def operand(self, form):
         """The text of what follows an instruction's name, a slot as its number."""
         if form == "c":
-            return self.constants[self.number(2)].text
+            number = self.number(2)
+            text = self.constants[number].text
+            return f"constant {number}" if is_long(text) else text
         if form == "v":
             return self.number(1)
         if form == "f":
@@ -348,6 +350,11 @@ class File:
         return row
 
 
+def is_long(text):
+    """Whether the text of a constant is too long for the line of an instruction, which then has its number."""
+    return len(text.encode()) > 60
+
+
 def line_of(number, name, operand, otherwise, slots):
     line = f"{number:5}  {name}"
     if isinstance(operand, int):
@@ -365,6 +372,9 @@ def listing(file, slots):
             yield f"routine {number}, arguments {file.arguments[number]}"
         for pc, (name, operand, otherwise) in enumerate(body):
             yield line_of(pc, name, operand, otherwise, slots)
+    for number, constant in enumerate(file.constants):
+        if is_long(constant.text):
+            yield f"constant {number}: {constant.text}"
 
 
 def explained(file, slots, plan, keypos, bounds):

@@ -1,7 +1,8 @@
 -- An engine that a closed table has in the proofs, where the code has none.
-use Rattle.std.proofs.Common.{ℕ, [], refl, arith}
+use Rattle.std.proofs.Common.{ℕ, [], refl, inl, arith}
 use Rattle.std.specs.declared.alloc.Global.{Global}
 use Rattle.std.specs.declared.vec.Vec.{Vec}
+use Rattle.std_collections.specs.Layout.BTreeMap.{btree_map}
 use denote.RawPtr.{null_ptr}
 use Rattle.tool_script.specs.declared.script.Current.TheVariants as current
 use Rattle.cutterash.specs.declared.kept.Kept.{Kept}
@@ -14,7 +15,7 @@ pub no_kept : Kept
 no_kept =
     record {
       engine = record {
-        script = record { alloc = heap; current = current.NoTable; count = 0; walks = no_items };
+        script = record { alloc = heap; current = current.NoTable; count = 0; walks = record { «open» = btree_map [] (inl tt); next = 0 }; taken = 0 };
         replies = no_items;
       };
     }

@@ -9,7 +9,8 @@
 //! - `calls`: calls with each allocation failing in turn, of `terms` and `text`, terms made, copied, read and written,
 //!   and of `functions`, operands and values.
 //! - `requests`: commands of the program, with the error line and the exit status; `sweeps`: how many lines each of
-//!   them writes if memory runs out. `scans`: scans by several sessions, and their own faults.
+//!   them writes if memory runs out; `exact`: which lines those are. `scans`: scans by several sessions, and their own
+//!   faults.
 //! - `opening`: options of tables that can't be opened, with memory and without.
 //! - `readers`: what is read of readers that fail, give one byte at a time or are interrupted; `writers`: what is
 //!   written to writers that fail, or hold all bytes back until they are flushed; `streams`: each command over each of
@@ -19,6 +20,8 @@
 
 #[cfg(test)]
 mod calls;
+#[cfg(test)]
+mod exact;
 #[cfg(test)]
 mod failing;
 #[cfg(test)]

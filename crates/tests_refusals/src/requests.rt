@@ -22,27 +22,41 @@ fn ends_a_line(written: &[u8]) -> bool {
     }
 }
 
+/// When the lines of a command are written if memory runs out.
+#[derive(Clone, Copy)]
+enum Ends {
+    /// Not before the last has been put together.
+    AtOnce,
+    /// Those that were put together; the last allocation is one for the last line.
+    LineByLine,
+    /// Those on the objects before, if memory runs out for an answer, and none if it runs out for the text. `exact`
+    /// counts them.
+    ByObject,
+    /// None, since the text is rejected. But if there is no memory for an answer, nor for the rest of the text whose
+    /// fault would be reported, those on the objects before: the first of these lines.
+    Rejected(&'static str),
+}
+
 /// A command over an input, and its result when memory is available.
 #[derive(Clone, Copy)]
 struct Case {
     request: Request,
     input: &'static str,
     lines: &'static str,
-    /// No line is written before the last has been put together; otherwise the last allocation is one for the last
-    /// line.
-    at_once: bool,
+    ends: Ends,
     line: &'static str,
     status: u8,
 }
 
 impl Case {
-    /// Returns whether the command has its result with memory that may run out, or ends with out of memory after no
-    /// fewer lines than in the run before.
+    /// Returns whether the command has its result with memory that may run out, or ends with out of memory after the
+    /// first of these lines, no fewer than in the run before.
     fn is_right<H: Threads + Wait + Sync>(
         self,
         rt: &H,
         alloc: Global,
         heap: &Failing<Global>,
+        lines: &str,
         so_far: &mut Written,
     ) -> bool {
         let mut reader = self.input.as_bytes();
@@ -59,39 +73,62 @@ impl Case {
         let told = err.writer;
         if ended != 3 {
             return out.as_slice() == self.lines.as_bytes()
-                && told.as_slice() == self.line.as_bytes()
+                && self.is_told(told.as_slice(), heap)
                 && ended == self.status;
         }
         heap.was_refused()
-            && so_far.goes_on(out.as_slice())
-            && self.lines.as_bytes().starts_with(out.as_slice())
+            && (so_far.goes_on(out.as_slice()) || self.goes_by_objects())
+            && lines.as_bytes().starts_with(out.as_slice())
             && ends_a_line(out.as_slice())
             && tells_no_memory(told.as_slice())
     }
 
-    /// Returns how many lines the command writes if its last allocation fails.
-    fn most(self) -> usize {
-        if self.at_once {
-            return 0;
+    /// Returns whether this is the command's error line, or nothing since memory ran out for the line.
+    fn is_told(self, told: &[u8], heap: &Failing<Global>) -> bool {
+        told == self.line.as_bytes() || told.is_empty() && heap.was_refused()
+    }
+
+    /// Returns whether the lines depend on what memory ran out for: an answer, or the text.
+    fn goes_by_objects(self) -> bool {
+        match self.ends {
+            Ends::ByObject | Ends::Rejected(_) => true,
+            Ends::AtOnce | Ends::LineByLine => false,
         }
-        lines_in(self.lines.as_bytes()).saturating_sub(1)
+    }
+
+    /// Returns the lines of which the first may be written if an allocation fails and all later ones.
+    fn lines_onward(self) -> &'static str {
+        match self.ends {
+            Ends::Rejected(lines) => lines,
+            Ends::AtOnce | Ends::LineByLine | Ends::ByObject => self.lines,
+        }
+    }
+
+    /// Returns whether the command wrote as many lines as it should when its last allocation failed.
+    fn is_last(self, written: usize) -> bool {
+        match self.ends {
+            Ends::AtOnce => written == 0,
+            Ends::LineByLine => written == lines_in(self.lines.as_bytes()).saturating_sub(1),
+            Ends::ByObject | Ends::Rejected(_) => true,
+        }
     }
 
     /// Returns whether `is_right` is true with each allocation failing in turn, alone and together with all later ones,
-    /// and the command writes `most` lines if the last one fails.
+    /// and the command writes as many lines as it should if the last one fails.
     fn holds<H: Threads + Wait + Sync>(self, rt: &H, alloc: Global) -> bool {
         let mut so_far = Written { lines: 0 };
         let alone = sweep(alloc, 4_000, |heap| {
-            self.is_right(rt, alloc, heap, &mut so_far) && heap.blocks() == 0
+            self.is_right(rt, alloc, heap, self.lines, &mut so_far) && heap.blocks() == 0
         });
         let mut so_far_onward = Written { lines: 0 };
         let onward = sweep_onward(alloc, 4_000, |heap| {
-            self.is_right(rt, alloc, heap, &mut so_far_onward) && heap.blocks() == 0
+            self.is_right(rt, alloc, heap, self.lines_onward(), &mut so_far_onward)
+                && heap.blocks() == 0
         });
         alone.is_complete()
-            && so_far.lines == self.most()
+            && self.is_last(so_far.lines)
             && onward.is_complete()
-            && so_far_onward.lines == self.most()
+            && self.is_last(so_far_onward.lines)
     }
 }
 
@@ -129,7 +166,7 @@ const QUERIES: [Case; 7] = [
         request: Request::Run(Form::Canonical),
         input: PAIRS,
         lines: "b.\n",
-        at_once: true,
+        ends: Ends::ByObject,
         line: "",
         status: 0,
     },
@@ -137,7 +174,7 @@ const QUERIES: [Case; 7] = [
         request: Request::Test(Form::Canonical),
         input: PAIRS,
         lines: "false.\n{ok,b}.\n",
-        at_once: true,
+        ends: Ends::ByObject,
         line: "",
         status: 0,
     },
@@ -145,7 +182,7 @@ const QUERIES: [Case; 7] = [
         request: Request::Run(Form::Canonical),
         input: MADE,
         lines: MADE_LINES,
-        at_once: true,
+        ends: Ends::ByObject,
         line: "",
         status: 0,
     },
@@ -153,7 +190,7 @@ const QUERIES: [Case; 7] = [
         request: Request::Test(Form::Canonical),
         input: TESTED,
         lines: TESTED_LINES,
-        at_once: true,
+        ends: Ends::ByObject,
         line: "",
         status: 0,
     },
@@ -161,7 +198,7 @@ const QUERIES: [Case; 7] = [
         request: Request::Run(Form::Canonical),
         input: "[{{'$1'},[],['$3']}]. {1}.",
         lines: "",
-        at_once: true,
+        ends: Ends::ByObject,
         line: "error E16 0 3\n",
         status: 2,
     },
@@ -169,7 +206,7 @@ const QUERIES: [Case; 7] = [
         request: Request::Run(Form::Canonical),
         input: "[{{'$1'},[],[{{'$1',[]}}]}]. {1}. {[2]}. {\"3\"",
         lines: "",
-        at_once: true,
+        ends: Ends::Rejected("{1,[]}.\n{[2],[]}.\n"),
         line: "error E5 45\n",
         status: 2,
     },
@@ -177,7 +214,7 @@ const QUERIES: [Case; 7] = [
         request: Request::Run(Form::Canonical),
         input: "[{{'$1'},[],['$3']}]. {1}. {[2]}. {\"3\"",
         lines: "",
-        at_once: true,
+        ends: Ends::ByObject,
         line: "error E5 38\n",
         status: 2,
     },
@@ -200,7 +237,7 @@ const FILES: [Case; 3] = [
         request: Request::Compile,
         input: "[{'_',[],[true]}].",
         lines: FILE,
-        at_once: false,
+        ends: Ends::LineByLine,
         line: "",
         status: 0,
     },
@@ -208,7 +245,7 @@ const FILES: [Case; 3] = [
         request: Request::Verify,
         input: FILE,
         lines: "{ok,2,1}.\n",
-        at_once: false,
+        ends: Ends::LineByLine,
         line: "",
         status: 0,
     },
@@ -216,7 +253,7 @@ const FILES: [Case; 3] = [
         request: Request::Run(Form::Canonical),
         input: "<<69,77,83,67,0,1,0,0,0,1,2,0,4,116,114,117,101,0,3,2,0,0,24,25,0,1,0,2,0,0,0,0,0,0>>. a.",
         lines: "true.\n",
-        at_once: false,
+        ends: Ends::ByObject,
         line: "",
         status: 0,
     },
@@ -278,7 +315,7 @@ const EXPLANATIONS: [Case; 2] = [
         request: Request::Explain(1),
         input: EXPLAINED,
         lines: EXPLAINED_LINES,
-        at_once: true,
+        ends: Ends::AtOnce,
         line: "",
         status: 0,
     },
@@ -286,7 +323,7 @@ const EXPLANATIONS: [Case; 2] = [
         request: Request::Explain(3),
         input: FILE,
         lines: FILE_LINES,
-        at_once: true,
+        ends: Ends::AtOnce,
         line: "",
         status: 0,
     },
@@ -409,7 +446,7 @@ const SHELLS: [Case; 2] = [
         request: Request::Shell,
         input: SHELL,
         lines: SHELL_LINES,
-        at_once: false,
+        ends: Ends::LineByLine,
         line: "",
         status: 0,
     },
@@ -417,7 +454,7 @@ const SHELLS: [Case; 2] = [
         request: Request::Shell,
         input: BAG_SCRIPT,
         lines: BAG_LINES,
-        at_once: false,
+        ends: Ends::LineByLine,
         line: "",
         status: 0,
     },
@@ -440,7 +477,7 @@ const SCRIPTS: [Case; 3] = [
         request: Request::Script,
         input: SET_SCRIPT,
         lines: SCRIPT_LINES,
-        at_once: false,
+        ends: Ends::LineByLine,
         line: "",
         status: 0,
     },
@@ -448,7 +485,7 @@ const SCRIPTS: [Case; 3] = [
         request: Request::Script,
         input: ORDERED_SET_SCRIPT,
         lines: SCRIPT_LINES,
-        at_once: false,
+        ends: Ends::LineByLine,
         line: "",
         status: 0,
     },
@@ -456,7 +493,7 @@ const SCRIPTS: [Case; 3] = [
         request: Request::Script,
         input: BAG_SCRIPT,
         lines: BAG_LINES,
-        at_once: false,
+        ends: Ends::LineByLine,
         line: "",
         status: 0,
     },

@@ -15,7 +15,10 @@ use Rattle.tool_io.specs.declared.fault.ToolFault.{ToolFault}
 use Rattle.tool_io.specs.declared.fault.ToolFault.TheVariants as fault
 use Rattle.tool_io.proofs.LineLemmas.{appends_none}
 use Rattle.tool_query.proofs.RunLemmas.{kept}
-use Rattle.tool_query.specs.Run.{Stops}
+use Rattle.term_text.specs.declared.write.Form.{Form}
+use Rattle.tool_query.specs.Answers.{Report}
+use Rattle.tool_query.specs.Answers.Report.{answers, outcomes}
+use Rattle.tool_query.specs.Run.{Stops, StopsReport}
 use Rattle.tool_scan.specs.Options.{AreAllowed}
 use Rattle.tool_scan.specs.Scan.{StopsScan}
 use Rattle.tool_scan.specs.declared.options.ScanOptions.{ScanOptions}
@@ -31,21 +34,21 @@ use Rattle.tool_cli.specs.declared.words.Invocation.{Invocation}
 use Rattle.tool_cli.specs.declared.words.Request.{Request}
 use Rattle.tool_cli.specs.declared.words.Request.TheVariants as request
 
--- a command that is neither a script, a shell nor a scan
+-- a command that writes no answers line by line: neither `run` nor `test`, a script, a shell nor a scan
 abbrev pub IsQuery : Request → Type 0
+IsQuery (request.Run form) = ⊥
+IsQuery (request.Test form) = ⊥
 IsQuery request.Script = ⊥
 IsQuery request.Shell = ⊥
 IsQuery request.Prompt = ⊥
 IsQuery (request.Scan o) = ⊥
 IsQuery r = Unit {0}
 
--- the outcome of a command that is neither a script, a shell nor a scan, by the two clauses of its contract
+-- the outcome of such a command, by the two clauses of its contract
 pub has_outcome : (r : Request) (known old new : Option (List ℕ)) (outcome : Result (Unit {0}) ToolFault) → IsQuery r → OnOk outcome (OfTerms known (λ terms. Writes r terms old new))
     → IfErr outcome (λ f. Stops known old new f (λ terms. StopsOn r terms old new f)) → HasOutcome r known old new outcome
-has_outcome (request.Run form) known old new (Ok x) other ok stopped = ok
-has_outcome (request.Run form) known old new (Err f) other ok stopped = stopped
-has_outcome (request.Test form) known old new (Ok x) other ok stopped = ok
-has_outcome (request.Test form) known old new (Err f) other ok stopped = stopped
+has_outcome (request.Run form) known old new outcome other ok stopped = absurd other
+has_outcome (request.Test form) known old new outcome other ok stopped = absurd other
 has_outcome request.Compile known old new (Ok x) other ok stopped = ok
 has_outcome request.Compile known old new (Err f) other ok stopped = stopped
 has_outcome request.Verify known old new (Ok x) other ok stopped = ok
@@ -56,6 +59,17 @@ has_outcome request.Script known old new outcome other ok stopped = absurd other
 has_outcome request.Shell known old new outcome other ok stopped = absurd other
 has_outcome request.Prompt known old new outcome other ok stopped = absurd other
 has_outcome (request.Scan o) known old new outcome other ok stopped = absurd other
+
+-- the outcome of `run` and of `test`, by the two clauses of its contract
+pub has_reported : (form : Form) (known old new : Option (List ℕ)) (outcome : Result (Unit {0}) ToolFault) → OnOk outcome (OfTerms known (λ terms. Writes (request.Run form) terms old new))
+    → IfErr outcome (StopsReport (answers form) known old new) → HasOutcome (request.Run form) known old new outcome
+has_reported form known old new (Ok x) ok stopped = ok
+has_reported form known old new (Err f) ok stopped = stopped
+
+pub has_tested : (form : Form) (known old new : Option (List ℕ)) (outcome : Result (Unit {0}) ToolFault) → OnOk outcome (OfTerms known (λ terms. Writes (request.Test form) terms old new))
+    → IfErr outcome (StopsReport (outcomes form) known old new) → HasOutcome (request.Test form) known old new outcome
+has_tested form known old new (Ok x) ok stopped = ok
+has_tested form known old new (Err f) ok stopped = stopped
 
 -- the outcome of a script, by the two clauses of its contract
 pub has_replies : (known old new : Option (List ℕ)) (outcome : Result (Unit {0}) ToolFault) → OnOk outcome (OfScript known (λ terms. Writes request.Script terms old new))
@@ -95,9 +109,9 @@ ends_command mistake i known out out' err err' failed status is h = absurd is
 pub ends_told : (input : List ℕ) (f : ToolFault) (line told : List ℕ) (meant : Result (Unit {0}) AllocError) (err err' : Option (List ℕ)) (failed : Type 0) (status : ℕ) → status ≡ status_of f → line ≡ line_of f
     → OnOk meant ((m : List ℕ) × Explains input f m × (told ≡ line ++ m)) → OnErr meant (told ≡ line) → Tells err err' failed told → EndsTold input f err err' failed status
 ends_told input f line told (Ok x) err err' failed status ended is meant none tells =
-    inl (ended, meant.0, inl meant.1, subst (Tells err err' failed) (meant.2 ∙ ap (λ l. l ++ meant.0) is) tells)
+    (ended, inl (meant.0, inl meant.1, subst (Tells err err' failed) (meant.2 ∙ ap (λ l. l ++ meant.0) is) tells))
 ends_told input f line told (Err e) err err' failed status ended is meant none tells =
-    inl (ended, [], inr refl, subst (Tells err err' failed) (none ∙ (is ∙ sym (append-nil (line_of f)))) tells)
+    (ended, inl ([], inr refl, subst (Tells err err' failed) (none ∙ (is ∙ sym (append-nil (line_of f)))) tells))
 
 -- the input is what is known of it
 abbrev pub IsGiven : Option (List ℕ) → List ℕ → Type 0
@@ -109,6 +123,10 @@ of_given known input P given h = (input, given, subst P h.1 h.2)
 stops_given : (known old new : Option (List ℕ)) (input : List ℕ) (f : ToolFault) (Stopped : List Datum → Type 0) → IsGiven known input → Stops (Some input) old new f Stopped → Stops known old new f Stopped
 stops_given known old new input f Stopped given (inl unread) = inl (of_given known input _ given unread.0, unread.1)
 stops_given known old new input f Stopped given (inr stopped) = inr (of_given known input _ given stopped)
+
+report_given : (r : Report) (known old new : Option (List ℕ)) (input : List ℕ) (f : ToolFault) → IsGiven known input → StopsReport r (Some input) old new f → StopsReport r known old new f
+report_given r known old new input f given (inl stopped) = inl (stops_given known old new input f _ given stopped)
+report_given r known old new input f given (inr cut) = inr (of_given known input _ given cut)
 
 script_given : (known old new : Option (List ℕ)) (input : List ℕ) (f : ToolFault) → IsGiven known input → StopsScript (Some input) old new f → StopsScript known old new f
 script_given known old new input f given (inl unread) = inl (of_given known input _ given unread.0, unread.1)
@@ -178,9 +196,9 @@ outcome_given request.Prompt known old new input (Err f) given h = h
 outcome_given (request.Scan o) known old new input (Ok x) given h = (h.0, of_given known input _ given h.1)
 outcome_given (request.Scan o) known old new input (Err f) given h = scan_given o known old new input f given h
 outcome_given (request.Run form) known old new input (Ok x) given h = of_given known input _ given h
-outcome_given (request.Run form) known old new input (Err f) given h = stops_given known old new input f _ given h
+outcome_given (request.Run form) known old new input (Err f) given h = report_given _ known old new input f given h
 outcome_given (request.Test form) known old new input (Ok x) given h = of_given known input _ given h
-outcome_given (request.Test form) known old new input (Err f) given h = stops_given known old new input f _ given h
+outcome_given (request.Test form) known old new input (Err f) given h = report_given _ known old new input f given h
 outcome_given request.Compile known old new input (Ok x) given h = of_given known input _ given h
 outcome_given request.Compile known old new input (Err f) given h = stops_given known old new input f _ given h
 outcome_given request.Verify known old new input (Ok x) given h = of_given known input _ given h
@@ -253,10 +271,10 @@ unread_outcome request.Prompt fault.Memory input old is = tt
 unread_outcome request.Prompt fault.ReadFailed input old is = tt
 unread_outcome (request.Scan o) fault.Memory input old is = inl ((input, refl, tt), kept old)
 unread_outcome (request.Scan o) fault.ReadFailed input old is = inl ((input, refl, tt), kept old)
-unread_outcome (request.Run form) fault.Memory input old is = inl ((input, refl, tt), kept old)
-unread_outcome (request.Run form) fault.ReadFailed input old is = inl ((input, refl, tt), kept old)
-unread_outcome (request.Test form) fault.Memory input old is = inl ((input, refl, tt), kept old)
-unread_outcome (request.Test form) fault.ReadFailed input old is = inl ((input, refl, tt), kept old)
+unread_outcome (request.Run form) fault.Memory input old is = inl (inl ((input, refl, tt), kept old))
+unread_outcome (request.Run form) fault.ReadFailed input old is = inl (inl ((input, refl, tt), kept old))
+unread_outcome (request.Test form) fault.Memory input old is = inl (inl ((input, refl, tt), kept old))
+unread_outcome (request.Test form) fault.ReadFailed input old is = inl (inl ((input, refl, tt), kept old))
 unread_outcome request.Compile fault.Memory input old is = inl ((input, refl, tt), kept old)
 unread_outcome request.Compile fault.ReadFailed input old is = inl ((input, refl, tt), kept old)
 unread_outcome request.Verify fault.Memory input old is = inl ((input, refl, tt), kept old)

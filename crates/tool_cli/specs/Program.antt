@@ -8,7 +8,7 @@ use Rattle.tool_io.specs.declared.fault.ToolFault.{ToolFault}
 use Rattle.tool_io.specs.declared.fault.ToolFault.TheVariants as fault
 use Rattle.tool_query.specs.Answers.Report.{answers, outcomes}
 use Rattle.tool_query.specs.Code.{WritesFile, StopsFile, WritesVerdict, StopsVerdict}
-use Rattle.tool_query.specs.Run.{WritesAnswers, StopsAnswers, Stops}
+use Rattle.tool_query.specs.Run.{WritesAnswers, StopsReport, Stops}
 use Rattle.tool_explain.specs.Explain.{WritesExplanation, StopsExplanation}
 use Rattle.tool_script.specs.Run.{WritesReplies, StopsReplies}
 use Rattle.tool_script.specs.Input.{OfScript, StopsScript}
@@ -25,11 +25,11 @@ use Rattle.tool_cli.specs.declared.words.Invocation.{Invocation}
 use Rattle.tool_cli.specs.declared.words.Request.{Request}
 use Rattle.tool_cli.specs.declared.words.Request.TheVariants as request
 
--- The program ends with this fault: with the status of the fault, and its error line on standard error; or, if memory
--- ran out for the line, with status 3 and nothing there.
+-- The program ends with this fault: with the status of the fault, and its error line on standard error, or nothing there
+-- if memory ran out for the line.
 abbrev pub EndsBy : ToolFault → (err err' : Option (List ℕ)) → (failed : Type 0) → ℕ → Type 0
 EndsBy f err err' failed status =
-    ((status ≡ status_of f) × Tells err err' failed (line_of f)) ⊎ ((status ≡ 3) × Keeps err err')
+    (status ≡ status_of f) × (Tells err err' failed (line_of f) ⊎ Keeps err err')
 
 -- the program ends with a command's outcome: with status 0 and nothing on standard error, or with its fault
 abbrev pub EndsWith : Result (Unit {0}) ToolFault → (err err' : Option (List ℕ)) → (failed : Type 0) → ℕ
@@ -49,17 +49,17 @@ Writes request.Prompt terms old new = ⊥
 Writes (request.Scan o) terms old new = WritesScan o terms old new
 Writes (request.Explain keypos) terms old new = WritesExplanation keypos terms old new
 
--- how a command ends early, given the terms of its input
+-- how a command ends early, given the terms of its input; for commands that may end so without them, see `HasOutcome`
 abbrev pub StopsOn : Request → List Datum → (old new : Option (List ℕ)) → ToolFault → Type 0
-StopsOn (request.Run form) terms old new f = StopsAnswers (answers form) terms old new f
-StopsOn (request.Test form) terms old new f = StopsAnswers (outcomes form) terms old new f
+StopsOn (request.Run form) terms old new f = ⊥
+StopsOn (request.Test form) terms old new f = ⊥
 StopsOn request.Compile terms old new f = StopsFile terms old new f
 StopsOn request.Verify terms old new f = StopsVerdict terms old new f
 StopsOn request.Script terms old new f = StopsReplies terms old new f
 StopsOn request.Shell terms old new f = ⊥
 StopsOn request.Prompt terms old new f = ⊥
 StopsOn (request.Scan o) terms old new f = StopsTerms o terms old new f
-StopsOn (request.Explain keypos) terms old new f = StopsExplanation terms old new f
+StopsOn (request.Explain keypos) terms old new f = StopsExplanation keypos terms old new f
 
 -- What a command's outcome says about standard output. A script may have no term, and a scan's options are in their
 -- ranges. For a shell for a person it says only why it ends early.
@@ -74,6 +74,10 @@ HasOutcome request.Prompt known old new (Err f) = IsStreamFault f
 HasOutcome (request.Scan o) known old new (Ok x) =
     AreAllowed o × OfTerms known (λ terms. Writes (request.Scan o) terms old new)
 HasOutcome (request.Scan o) known old new (Err f) = StopsScan o known old new f
+HasOutcome (request.Run form) known old new (Ok x) = OfTerms known (λ terms. Writes (request.Run form) terms old new)
+HasOutcome (request.Run form) known old new (Err f) = StopsReport (answers form) known old new f
+HasOutcome (request.Test form) known old new (Ok x) = OfTerms known (λ terms. Writes (request.Test form) terms old new)
+HasOutcome (request.Test form) known old new (Err f) = StopsReport (outcomes form) known old new f
 HasOutcome r known old new (Ok x) = OfTerms known (λ terms. Writes r terms old new)
 HasOutcome r known old new (Err f) =
     Stops known old new f (λ terms. StopsOn r terms old new f)
@@ -92,11 +96,11 @@ pub record EndsRequest (r : Request) (known out out' err err' : Option (List ℕ
   pub ended : EndsWith outcome err err' failed status
 
 -- The program ends with this fault of an input: with the status of the fault, and on standard error its error line,
--- followed by what it means. If memory ran out for the line, it ends with status 3 and nothing there.
+-- followed by what it means, or nothing there if memory ran out for the line.
 abbrev pub EndsTold : List ℕ → ToolFault → (err err' : Option (List ℕ)) → (failed : Type 0) → ℕ → Type 0
 EndsTold input f err err' failed status =
-    ((status ≡ status_of f) × (told : List ℕ) × IsTold input f told × Tells err err' failed (line_of f ++ told))
-    ⊎ ((status ≡ 3) × Keeps err err')
+    (status ≡ status_of f)
+    × (((told : List ℕ) × IsTold input f told × Tells err err' failed (line_of f ++ told)) ⊎ Keeps err err')
 
 -- the program ends with the outcome of a command over this input, and explains a fault
 abbrev pub EndsTelling : List ℕ → Result (Unit {0}) ToolFault → (err err' : Option (List ℕ)) → (failed : Type 0) → ℕ

@@ -1,8 +1,9 @@
 //! The place of a byte in a text, as a person sees it: a line and a column.
-ghost use Rattle.std.specs.Prelude.{◌≡◌, ◌++◌, ◌+◌, take, OnOk, [], ◌∷◌, codes};
+ghost use Rattle.std.specs.Prelude.{◌≡◌, ◌++◌, ◌+◌, take, IfOk, OnOk, [], ◌∷◌, codes};
 ghost use Rattle.std.specs.Fmt.{decimal};
-ghost use Rattle.std.specs.List.{after_last, before_first, count_by, flat_map};
+ghost use Rattle.std.specs.List.{after_last, before_first, before_last, count_by, flat_map};
 ghost use Rattle.tool_cli.specs.Place.{is_feed, begins_character, room_for, before_in_line, on_in_line};
+ghost use Rattle.tool_cli.specs.Place.{from_character, shown_before, shown_on};
 ghost use Rattle.tool_cli.specs.Place.{place_lines, ColumnsAreCharacters};
 
 use std::alloc::{AllocError, Allocator};
@@ -84,8 +85,63 @@ fn character_count(text: &[u8]) -> usize
     text.iter().filter(|byte| begins_character(**byte)).count()
 }
 
-/// Appends the place of a byte of the text: the numbers of its line and its column, the line, and a caret under the
-/// byte, each on a line of its own.
+/// Returns the bytes from the first that begins a character on.
+fn from_character(bytes: &[u8]) -> &[u8]
+    ensures { result.now ≡ from_character bytes.now }
+{
+    let mut rest = bytes;
+    loop {
+        let Some((first, after)) = rest.split_first() else {
+            return rest;
+        };
+        if begins_character(*first) {
+            return rest;
+        }
+        rest = after;
+    }
+}
+
+/// Returns the bytes before the last one that begins a character, or none if none does.
+fn before_last_character(bytes: &[u8]) -> &[u8]
+    ensures { result.now ≡ before_last begins_character bytes.now }
+{
+    for end in (0..bytes.len()).rev() {
+        if begins_character(bytes[end]) {
+            return &bytes[..end];
+        }
+    }
+    &[]
+}
+
+/// How many bytes of a line are shown at most on each side of a byte.
+const SIDE: usize = 160;
+
+/// Returns what is shown of a line before a byte: all of it, or dots and its last characters.
+fn shown_before<A: Allocator + Copy>(alloc: A, line: &[u8]) -> Result<Vec<u8, A>, AllocError>
+    ensures { IfOk result (λ v. v.items ≡ shown_before line.now) }
+{
+    if line.len() <= SIDE {
+        return Vec::from_slice(alloc, line);
+    }
+    let mut shown = Vec::from_slice(alloc, b"...")?;
+    shown.extend_from_slice(from_character(&line[line.len() - SIDE..]))?;
+    Ok(shown)
+}
+
+/// Appends what is shown of a line from a byte on: all of it, or its first characters and dots.
+fn put_on<A: Allocator>(line: &[u8], out: &mut Vec<u8, A>) -> Result<(), AllocError>
+    ensures { OnOk result (out.new.items ≡ out.old.items ++ shown_on line.now) }
+{
+    if line.len() <= SIDE {
+        return out.extend_from_slice(line);
+    }
+    let beginning = &line[..SIDE];
+    out.extend_from_slice(before_last_character(beginning))?;
+    out.extend_from_slice(b"...")
+}
+
+/// Appends the place of a byte of the text: the numbers of its line and its column, the part of the line around it, and
+/// a caret under the byte, each on a line of its own.
 pub(crate) fn put_place<A: Allocator + Copy>(
     alloc: A,
     text: &[u8],
@@ -95,9 +151,10 @@ pub(crate) fn put_place<A: Allocator + Copy>(
     ensures { OnOk result (out.new.items ≡ out.old.items ++ place_lines text.now at) }
 {
     let place = place_of(text, at);
+    let before = shown_before(alloc, place.before)?;
     put_numbers(alloc, &place, out)?;
-    put_line(&place, out)?;
-    put_caret(place.before, out)
+    put_line(before.as_slice(), place.on, out)?;
+    put_caret(before.as_slice(), out)
 }
 
 /// Appends a line with the numbers of line and column, each counted from 1.
@@ -118,13 +175,12 @@ fn put_numbers<A: Allocator + Copy>(
     Ok(())
 }
 
-/// Appends the line of the place.
-fn put_line<A: Allocator>(place: &Place<'_>, out: &mut Vec<u8, A>) -> Result<(), AllocError>
-    ensures { OnOk result (out.new.items
-        ≡ out.old.items ++ (place.now.before.now ++ place.now.on.now ++ 10 ∷ [])) }
+/// Appends what is shown before a byte in its line, and from it on.
+fn put_line<A: Allocator>(before: &[u8], on: &[u8], out: &mut Vec<u8, A>) -> Result<(), AllocError>
+    ensures { OnOk result (out.new.items ≡ out.old.items ++ (before.now ++ shown_on on.now ++ 10 ∷ [])) }
 {
-    out.extend_from_slice(place.before)?;
-    out.extend_from_slice(place.on)?;
+    out.extend_from_slice(before)?;
+    put_on(on, out)?;
     out.push(b'\n')?;
     Ok(())
 }

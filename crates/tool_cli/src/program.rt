@@ -31,8 +31,6 @@ use tool_script::{run_prompt, run_script, run_shell};
 
 /// The exit status of a program that did what was requested.
 const DONE: u8 = 0;
-/// The exit status if memory runs out even for the error line.
-const NO_MEMORY: u8 = 3;
 /// The exit status if the words were not understood.
 const BAD_WORDS: u8 = 64;
 /// What `--version` writes.
@@ -197,7 +195,7 @@ fn command_outcome<
 }
 
 /// Returns the exit status for the outcome of a command, and reports the error line of a fault. Reports nothing if
-/// memory runs out for the line; the status is then 3.
+/// memory runs out for the line.
 fn end<A: Allocator + Copy, E: Tell>(alloc: A, outcome: Result<(), ToolFault>, err: &mut E) -> u8
     ensures { EndsWith outcome (E.told err.old) (E.told err.new) (E.has_failed err.new) result }
 {
@@ -206,16 +204,14 @@ fn end<A: Allocator + Copy, E: Tell>(alloc: A, outcome: Result<(), ToolFault>, e
     };
     let mut line = Vec::new(alloc);
     match fault_line(alloc, &fault, &mut line) {
-        Ok(status) => {
-            err.tell(line.as_slice());
-            status
-        }
-        Err(AllocError) => NO_MEMORY,
+        Ok(()) => err.tell(line.as_slice()),
+        Err(AllocError) => {}
     }
+    fault.status()
 }
 
 /// Returns the exit status for the outcome of a command over this input, and reports a fault: its error line, followed
-/// by what it means. Leaves out the latter if memory runs out for it.
+/// by what it means. Leaves out the latter if memory runs out for it, and both if memory runs out for the line.
 #[tactic(auto, using(crate::proofs::EndLemmas::ends_told))]
 fn end_explained<A: Allocator + Copy, E: Tell>(
     alloc: A,
@@ -230,12 +226,12 @@ fn end_explained<A: Allocator + Copy, E: Tell>(
     };
     let mut told = Vec::new(alloc);
     match fault_line(alloc, &fault, &mut told) {
-        Ok(ended) => {
+        Ok(()) => {
             let _meant = put_meaning(alloc, &fault, input, &mut told);
             err.tell(told.as_slice());
-            ended
+            fault.status()
         }
-        Err(AllocError) => NO_MEMORY,
+        Err(AllocError) => fault.status(),
     }
 }
 

@@ -1,5 +1,6 @@
 -- The explanation of a query, put together of its parts.
-use Rattle.std.proofs.Common.{◌≡◌, ◌∙◌, ℕ, List, [], ◌∷◌, ◌++◌, Option, None, refl, sym, ap, subst}
+use Rattle.std.proofs.Common.{◌≡◌, ◌∙◌, ◌⊎◌, inl, inr, ℕ, List, [], ◌∷◌, ◌++◌, Option, None, refl, sym, ap, subst}
+use Rattle.std.specs.Io.KnownBytes.{Appends, Keeps}
 use Rattle.term_core.specs.Datum.{Datum}
 use Rattle.term_core.specs.Datum.Datum.{integer, atom, tuple, map, nil, cons, binary}
 use Rattle.mcode.specs.Answer.{answer_of}
@@ -11,10 +12,10 @@ use Rattle.walk_query.specs.Named.{named_by}
 use Rattle.tool_io.specs.declared.fault.ToolFault.{ToolFault}
 use Rattle.tool_io.specs.declared.fault.ToolFault.TheVariants as fault
 use Rattle.tool_query.specs.Code.{IsNoBinary}
-use Rattle.tool_query.specs.Query.{Query, IsRead, IsLoaded, IsQuery, IsNoQuery}
-use Rattle.tool_query.proofs.QueryLemmas.{asks_meant}
-use Rattle.tool_query.proofs.RunLemmas.{kept}
-use Rattle.tool_explain.specs.Explain.{CodeText, QueryText, Explains, StopsExplanation}
+use Rattle.tool_query.specs.Query.{Query, IsRead, IsLoaded, IsQuery, IsNoQuery, IsUnloaded, IsNoSpecification}
+use Rattle.tool_query.proofs.QueryLemmas.{asks_meant, asks_nothing}
+use Rattle.tool_explain.specs.Explain.{CodeText, QueryText, Explains, WritesQuery, StopsQuery, StopsTerm, StopsExplanation}
+use Rattle.tool_explain.specs.Passing.{StopsPassing}
 use Rattle.tool_explain.specs.Plan.{plan_text}
 
 -- ---- the text of a query
@@ -34,11 +35,39 @@ meant_text keypos s p vs plan text code same answers variables plan_is code_is i
 
 -- ---- which query a term is
 
-pub coded_explained : (keypos : ℕ) (d : Datum) (bytes text : List ℕ) → d ≡ binary bytes → (p : Program) × IsLoaded bytes p × QueryText keypos (Query.coded p) text → Explains keypos d text
-coded_explained keypos d bytes text is h = (Query.coded h.0, subst (λ e. IsQuery e (Query.coded h.0)) (sym is) (h.0, refl, h.1), h.2)
+coded_explained : (keypos : ℕ) (d : Datum) (bytes text : List ℕ) → d ≡ binary bytes → (p : Program) → IsLoaded bytes p → QueryText keypos (Query.coded p) text → Explains keypos d text
+coded_explained keypos d bytes text is p loaded h = (Query.coded p, subst (λ e. IsQuery e (Query.coded p)) (sym is) (p, refl, loaded), h)
 
-pub meant_explained : (keypos : ℕ) (d : Datum) (text : List ℕ) → IsNoBinary d → (s : Specification) × IsRead d s × QueryText keypos (Query.meant s) text → Explains keypos d text
-meant_explained keypos d text other h = (Query.meant h.0, asks_meant d h.0 other h.1, h.2)
+pub coded_written : (keypos : ℕ) (d : Datum) (bytes : List ℕ) (old new : Option (List ℕ)) → d ≡ binary bytes → (p : Program) × IsLoaded bytes p × (text : List ℕ) × QueryText keypos (Query.coded p) text × Appends old new text → WritesQuery keypos d old new
+coded_written keypos d bytes old new is (p, loaded, text, query, gained) = (text, coded_explained keypos d bytes text is p loaded query, gained)
+
+pub meant_written : (keypos : ℕ) (d : Datum) (old new : Option (List ℕ)) → IsNoBinary d → (s : Specification) × IsRead d s × (text : List ℕ) × QueryText keypos (Query.meant s) text × Appends old new text → WritesQuery keypos d old new
+meant_written keypos d old new other (s, read, text, query, gained) = (text, (Query.meant s, asks_meant d s other read, query), gained)
+
+-- ---- early ends
+
+-- memory ran out while the text of a query was written, or the writer failed
+pub query_stops : (keypos : ℕ) (q : Query) (text : List ℕ) (old new : Option (List ℕ)) (f : ToolFault) → QueryText keypos q text → StopsPassing text old new f → StopsQuery keypos q old new f
+query_stops keypos q text old new fault.Memory query stops = inr (text, query, stops)
+query_stops keypos q text old new fault.WriteFailed query stops = tt
+query_stops keypos q text old new (fault.Text f) query stops = absurd stops
+query_stops keypos q text old new fault.BadInput query stops = absurd stops
+query_stops keypos q text old new (fault.Specification f) query stops = absurd stops
+query_stops keypos q text old new (fault.File f) query stops = absurd stops
+query_stops keypos q text old new (fault.Code f b) query stops = absurd stops
+query_stops keypos q text old new fault.ReadFailed query stops = absurd stops
+query_stops keypos q text old new fault.TooSmall query stops = absurd stops
+query_stops keypos q text old new fault.BadOptions query stops = absurd stops
+
+pub coded_stops : (keypos : ℕ) (d : Datum) (bytes : List ℕ) (old new : Option (List ℕ)) (f : ToolFault) → d ≡ binary bytes
+    → (IsUnloaded bytes f × Keeps old new) ⊎ ((p : Program) × IsLoaded bytes p × StopsQuery keypos (Query.coded p) old new f) → StopsTerm keypos d old new f
+coded_stops keypos d bytes old new f is (inl h) = inl (subst (λ e. IsNoQuery e f) (sym is) h.0, h.1)
+coded_stops keypos d bytes old new f is (inr (p, loaded, stops)) = inr (Query.coded p, subst (λ e. IsQuery e (Query.coded p)) (sym is) (p, refl, loaded), stops)
+
+pub meant_stops : (keypos : ℕ) (d : Datum) (old new : Option (List ℕ)) (f : ToolFault) → IsNoBinary d
+    → (IsNoSpecification d f × Keeps old new) ⊎ ((s : Specification) × IsRead d s × StopsQuery keypos (Query.meant s) old new f) → StopsTerm keypos d old new f
+meant_stops keypos d old new f other (inl h) = inl (asks_nothing d f other h.0, h.1)
+meant_stops keypos d old new f other (inr (s, read, stops)) = inr (Query.meant s, asks_meant d s other read, stops)
 
 -- ---- a term that is no query
 
@@ -52,14 +81,31 @@ one_term nil h = h
 one_term (cons head tail) h = h
 one_term (binary bs) h = h
 
-pub unexplained : (terms : List Datum) (first : Datum) (old : Option (List ℕ)) (f : ToolFault) → terms ≡ first ∷ [] → IsNoQuery first f → StopsExplanation terms old old f
-unexplained terms first old fault.Memory is h = kept old
-unexplained terms first old fault.WriteFailed is h = tt
-unexplained terms first old fault.BadInput is h = absurd (one_term first h)
-unexplained terms first old (fault.Text f) is h = (first, is, h, kept old)
-unexplained terms first old (fault.Specification f) is h = (first, is, h, kept old)
-unexplained terms first old (fault.File f) is h = (first, is, h, kept old)
-unexplained terms first old (fault.Code f b) is h = (first, is, h, kept old)
-unexplained terms first old fault.ReadFailed is h = (first, is, h, kept old)
-unexplained terms first old fault.TooSmall is h = (first, is, h, kept old)
-unexplained terms first old fault.BadOptions is h = (first, is, h, kept old)
+unexplained : (keypos : ℕ) (terms : List Datum) (first : Datum) (old new : Option (List ℕ)) (f : ToolFault) → terms ≡ first ∷ [] → IsNoQuery first f → Keeps old new → StopsExplanation keypos terms old new f
+unexplained keypos terms first old new fault.Memory is h keeps = inl keeps
+unexplained keypos terms first old new fault.WriteFailed is h keeps = tt
+unexplained keypos terms first old new fault.BadInput is h keeps = absurd (one_term first h)
+unexplained keypos terms first old new (fault.Text f) is h keeps = (first, is, h, keeps)
+unexplained keypos terms first old new (fault.Specification f) is h keeps = (first, is, h, keeps)
+unexplained keypos terms first old new (fault.File f) is h keeps = (first, is, h, keeps)
+unexplained keypos terms first old new (fault.Code f b) is h keeps = (first, is, h, keeps)
+unexplained keypos terms first old new fault.ReadFailed is h keeps = (first, is, h, keeps)
+unexplained keypos terms first old new fault.TooSmall is h keeps = (first, is, h, keeps)
+unexplained keypos terms first old new fault.BadOptions is h keeps = (first, is, h, keeps)
+
+explained_stops : (keypos : ℕ) (terms : List Datum) (first : Datum) (q : Query) (old new : Option (List ℕ)) (f : ToolFault) → terms ≡ first ∷ [] → IsQuery first q → StopsQuery keypos q old new f → StopsExplanation keypos terms old new f
+explained_stops keypos terms first q old new fault.Memory is query (inl keeps) = inl keeps
+explained_stops keypos terms first q old new fault.Memory is query (inr (text, whole, front)) = inr (first, is, text, (q, query, whole), front)
+explained_stops keypos terms first q old new fault.WriteFailed is query stops = tt
+explained_stops keypos terms first q old new (fault.Text f) is query stops = absurd stops
+explained_stops keypos terms first q old new fault.BadInput is query stops = absurd stops
+explained_stops keypos terms first q old new (fault.Specification f) is query stops = absurd stops
+explained_stops keypos terms first q old new (fault.File f) is query stops = absurd stops
+explained_stops keypos terms first q old new (fault.Code f b) is query stops = absurd stops
+explained_stops keypos terms first q old new fault.ReadFailed is query stops = absurd stops
+explained_stops keypos terms first q old new fault.TooSmall is query stops = absurd stops
+explained_stops keypos terms first q old new fault.BadOptions is query stops = absurd stops
+
+pub term_stops : (keypos : ℕ) (terms : List Datum) (first : Datum) (old new : Option (List ℕ)) (f : ToolFault) → terms ≡ first ∷ [] → StopsTerm keypos first old new f → StopsExplanation keypos terms old new f
+term_stops keypos terms first old new f is (inl h) = unexplained keypos terms first old new f is h.0 h.1
+term_stops keypos terms first old new f is (inr (q, query, stops)) = explained_stops keypos terms first q old new f is query stops

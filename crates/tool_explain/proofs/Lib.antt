@@ -1,3 +1,4 @@
 pub mod ListingLemmas
+pub mod PassingLemmas
 pub mod ExplainLemmas
 pub mod OneLemmas

@@ -1,5 +1,5 @@
 -- What `explain` writes, and how it ends early.
-use Rattle.std.specs.Prelude.{ℕ, ◌≡◌, ◌<◌, Option, None, List, [], ◌∷◌, ◌++◌, length}
+use Rattle.std.specs.Prelude.{ℕ, ◌≡◌, ◌<◌, ◌⊎◌, Option, None, List, [], ◌∷◌, ◌++◌, length}
 use Rattle.std.specs.Io.KnownBytes.{Appends, Keeps}
 use Rattle.term_core.specs.Datum.{Datum}
 use Rattle.mcode.specs.Answer.{answer_of}
@@ -14,6 +14,7 @@ use Rattle.tool_io.specs.declared.fault.ToolFault.TheVariants as fault
 use Rattle.tool_query.specs.Query.{Query, Answers, IsQuery, IsNoQuery}
 use Rattle.tool_explain.specs.Plan.{plan_text, bounds_text}
 use Rattle.tool_explain.specs.Listing.{listing}
+use Rattle.tool_explain.specs.Passing.{GainsFront}
 
 -- the code that is shown for a query: that of the specification, or that of the file
 abbrev pub code_shown : Query → Program
@@ -59,10 +60,31 @@ pub record WritesExplanation (keypos : ℕ) (terms : List Datum) (old new : Opti
   pub explains : Explains keypos first text
   pub gained : Appends old new text
 
--- why nothing was written, and that nothing was; if the writer failed, its contents are unspecified
-abbrev pub StopsExplanation : List Datum → (old new : Option (List ℕ)) → ToolFault → Type 0
-StopsExplanation terms old new fault.WriteFailed = Unit {0}
-StopsExplanation terms old new fault.Memory = Keeps old new
-StopsExplanation terms old new fault.BadInput = (1 < length terms) × Keeps old new
-StopsExplanation terms old new f =
+-- how the explanation of a query ends early: out of memory, with nothing written or with a beginning of its text; if the
+-- writer failed, its contents are unspecified
+abbrev pub StopsQuery : ℕ → Query → (old new : Option (List ℕ)) → ToolFault → Type 0
+StopsQuery keypos q old new fault.Memory =
+    Keeps old new ⊎ ((text : List ℕ) × QueryText keypos q text × GainsFront text old new)
+StopsQuery keypos q old new fault.WriteFailed = Unit {0}
+StopsQuery keypos q old new f = ⊥
+
+-- the writer gains the text of the query that a term is
+abbrev pub WritesQuery : ℕ → Datum → (old new : Option (List ℕ)) → Type 0
+WritesQuery keypos d old new = (text : List ℕ) × Explains keypos d text × Appends old new text
+
+-- how the explanation of a term ends early: nothing is written, unless memory runs out while the text of its query is
+-- written
+abbrev pub StopsTerm : ℕ → Datum → (old new : Option (List ℕ)) → ToolFault → Type 0
+StopsTerm keypos d old new f =
+    (IsNoQuery d f × Keeps old new) ⊎ ((q : Query) × IsQuery d q × StopsQuery keypos q old new f)
+
+-- How the command ends early. Nothing is written, except that a beginning of the text may be if memory runs out. If the
+-- writer failed, its contents are unspecified.
+abbrev pub StopsExplanation : ℕ → List Datum → (old new : Option (List ℕ)) → ToolFault → Type 0
+StopsExplanation keypos terms old new fault.WriteFailed = Unit {0}
+StopsExplanation keypos terms old new fault.Memory =
+    Keeps old new
+    ⊎ ((first : Datum) × (terms ≡ first ∷ []) × (text : List ℕ) × Explains keypos first text × GainsFront text old new)
+StopsExplanation keypos terms old new fault.BadInput = (1 < length terms) × Keeps old new
+StopsExplanation keypos terms old new f =
     (first : Datum) × (terms ≡ first ∷ []) × IsNoQuery first f × Keeps old new

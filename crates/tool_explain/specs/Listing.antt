@@ -1,9 +1,10 @@
 -- The listing of code: a line for each instruction of the main body, then of each routine.
-use Rattle.std.specs.Prelude.{ℕ, suc, ◌-◌, List, [], ◌∷◌, ◌++◌, length, codes, decimal}
+use Rattle.std.specs.Prelude.{ℕ, suc, ◌-◌, List, [], ◌∷◌, ◌++◌, if◌then◌else◌, length, codes, decimal}
 use Rattle.term_core.specs.Datum.{Datum}
 use Rattle.mcode.specs.Program.{Program, Routine}
 use Rattle.mcode.specs.declared.instr.Instr.{Instr}
-use Rattle.tool_explain.specs.Table.{mnemonic, operand_text, otherwise_text, blanks, in_column}
+use Rattle.tool_io.specs.Lines.{text_of}
+use Rattle.tool_explain.specs.Table.{mnemonic, operand_text, otherwise_text, is_long, blanks, in_column}
 
 -- the number of an instruction, right-aligned in five columns, and its name
 abbrev pub begun_line : ℕ → List ℕ → List ℕ
@@ -27,16 +28,23 @@ numbered text n (x ∷ xs) = text n x ++ numbered text (suc n) xs
 abbrev pub body_lines : List ℕ → List Datum → List Instr → List ℕ
 body_lines variables constants is = numbered (instruction_line variables constants) 0 is
 
--- the heading of a routine, with its number and how many arguments it has, and its lines
-abbrev pub routine_text : List ℕ → List Datum → ℕ → Routine → List ℕ
-routine_text variables constants n t =
-    codes "routine " ++ decimal n ++ codes ", arguments " ++ decimal (length t.arguments)
-    ++ 10
-    ∷ body_lines variables constants t.body.instructions
+-- the heading of a routine, with its number and how many arguments it has
+abbrev pub heading : ℕ → Routine → List ℕ
+heading n t = codes "routine " ++ decimal n ++ codes ", arguments " ++ decimal (length t.arguments) ++ codes "\n"
 
--- The listing of code: its main body, and then its routines. The slots are those of these variables, which are in
--- ascending order.
+-- a routine's heading and its lines
+abbrev pub routine_text : List ℕ → List Datum → ℕ → Routine → List ℕ
+routine_text variables constants n t = heading n t ++ body_lines variables constants t.body.instructions
+
+-- the line of a constant that the instructions name by its number, or nothing
+abbrev pub constant_line : ℕ → Datum → List ℕ
+constant_line n d = if is_long (text_of d) then codes "constant " ++ decimal n ++ codes ": " ++ text_of d ++ codes "\n" else []
+
+-- the routines of code, and the constants that are too long for the lines of instructions
+abbrev pub rest_of_listing : List ℕ → Program → List ℕ
+rest_of_listing variables p =
+    numbered (routine_text variables p.constants) 1 p.around.routines ++ numbered constant_line 0 p.constants
+
+-- The listing of code: its main body, and the rest. The slots are those of these variables, which are in ascending order.
 abbrev pub listing : List ℕ → Program → List ℕ
-listing variables p =
-    body_lines variables p.constants p.instructions
-    ++ numbered (routine_text variables p.constants) 1 p.around.routines
+listing variables p = body_lines variables p.constants p.instructions ++ rest_of_listing variables p

@@ -1,5 +1,5 @@
 -- What the columns of a listing have for an instruction: its name, its operand, and where it jumps if it fails.
-use Rattle.std.specs.Prelude.{ℕ, ◌-◌, ◌==◌, Option, Some, None, if◌then◌else◌, List, [], ◌∷◌, ◌++◌, length, slice_get, replicate, codes, decimal}
+use Rattle.std.specs.Prelude.{ℕ, ◌-◌, ◌==◌, nat_lt, Bool, Option, Some, None, if◌then◌else◌, List, [], ◌∷◌, ◌++◌, length, slice_get, replicate, codes, decimal}
 use Rattle.term_core.specs.Datum.{Datum}
 use Rattle.prims_table.specs.Names.{name_of}
 use Rattle.prims_table.specs.declared.prim.Primitive.{Primitive}
@@ -45,8 +45,16 @@ abbrev pub found_text : Option Datum → List ℕ
 found_text None = []
 found_text (Some d) = text_of d
 
+-- a constant is long if its text has more than 60 bytes
+abbrev pub is_long : List ℕ → Bool
+is_long text = nat_lt 60 (length text)
+
+-- a constant of this number stands for itself, or for its number if it is long
+abbrev pub shown_text : ℕ → List ℕ → List ℕ
+shown_text number text = if is_long text then codes "constant " ++ decimal number else text
+
 abbrev pub constant_text : List Datum → ℕ → List ℕ
-constant_text constants number = found_text (slice_get constants number)
+constant_text constants number = shown_text number (found_text (slice_get constants number))
 
 -- a slot by its variable, as `$1`, or by its number if it has no variable, as `#0`
 abbrev pub variable_text : Option ℕ → ℕ → List ℕ

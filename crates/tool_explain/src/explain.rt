@@ -1,19 +1,23 @@
 //! The command `explain`.
-ghost use Rattle.std.specs.Prelude.{ℕ, ◌≡◌, ◌<◌, ◌++◌, List, length, OnOk, IfOk, IfErr};
+ghost use Rattle.std.specs.Prelude.{ℕ, ◌≡◌, ◌<◌, ◌⊎◌, ◌++◌, List, length, OnOk, IfErr};
+ghost use Rattle.std.specs.Io.KnownBytes.{Appends, Keeps};
 ghost use Rattle.tool_io.specs.Terms.{OfTerms};
 ghost use Rattle.mcode.specs.Program.{Program};
 ghost use Rattle.mspec_syntax.specs.Specification.{Specification};
-ghost use Rattle.tool_query.specs.Query.{IsLoaded, IsRead, IsUnloaded, IsNoSpecification, IsNoQuery};
+ghost use Rattle.tool_query.specs.Query.{IsLoaded, IsRead, IsUnloaded, IsNoSpecification};
 ghost use Rattle.tool_query.specs.Query.Query.{meant, coded};
 ghost use Rattle.tool_query.specs.Run.{Stops};
-ghost use Rattle.tool_explain.specs.Explain.{Explains, QueryText, CodeText};
+ghost use Rattle.tool_explain.specs.Explain.{QueryText, CodeText, WritesQuery, StopsQuery, StopsTerm};
+ghost use Rattle.tool_explain.specs.Listing.{listing};
+ghost use Rattle.tool_explain.specs.Passing.{StopsPassing};
 ghost use Rattle.walk_query.specs.Named.{named_by};
 ghost use Rattle.tool_explain.specs.Plan.{plan_text};
 ghost use Rattle.tool_explain.specs.Explain.{WritesExplanation, StopsExplanation};
 
-use crate::listing::put_listing;
+use crate::listing::pass_listing;
 use crate::plan::{put_bounds, put_look_ups, put_whole_walk};
 use compiler::compile;
+use mcode::Code;
 use mspec_syntax::Spec;
 use std::alloc::{AllocError, Allocator};
 use std::io::{Read, Write};
@@ -25,8 +29,8 @@ use walk_query::named_keys;
 
 /// Reads one specification, or one code file, which is a binary, up to the reader's end. Writes which objects a walk
 /// visits in a table with this `keypos`, the maximal number of instructions and stack depth of a run, and the code. The
-/// slots of a specification's code are written as its variables. Writes nothing if the input is rejected or memory runs
-/// out.
+/// slots of a specification's code are written as its variables. Lines are written as they are made, 65,536 bytes or more
+/// at a time. Writes nothing if the input is rejected, and a beginning of the text, maybe nothing, if memory runs out.
 pub fn tool_explain<A: Allocator + Copy, R: Read, W: Write>(
     alloc: A,
     keypos: u16,
@@ -37,7 +41,7 @@ pub fn tool_explain<A: Allocator + Copy, R: Read, W: Write>(
         WritesExplanation keypos terms (W.contents writer.old) (W.contents writer.new))) }
     ensures refused { IfErr result (λ fault. Stops (R.remaining reader.old)
         (W.contents writer.old) (W.contents writer.new) fault (λ terms.
-        StopsExplanation terms (W.contents writer.old) (W.contents writer.new) fault)) }
+        StopsExplanation keypos terms (W.contents writer.old) (W.contents writer.new) fault)) }
 {
     let terms = read_input(alloc, reader)?;
     explain_terms(alloc, keypos, terms.as_slice(), writer)
@@ -53,95 +57,113 @@ fn explain_terms<A: Allocator + Copy, W: Write>(
     requires { 0 < length terms.now }
     ensures ok { OnOk result (WritesExplanation keypos terms.now
         (W.contents writer.old) (W.contents writer.new)) }
-    ensures stopped { IfErr result (StopsExplanation terms.now
+    ensures stopped { IfErr result (StopsExplanation keypos terms.now
         (W.contents writer.old) (W.contents writer.new)) }
 {
-    let mut lines = explanation(alloc, keypos, only(terms)?)?;
-    write_lines(writer, &mut lines)
+    let term = only(terms)?;
+    explain_term(alloc, keypos, term, writer)
 }
 
-/// Returns the explanation of the query that a term is: for a binary that of the code of which it is the file, for any
+/// Writes the explanation of the query that a term is: for a binary that of the code of which it is the file, for any
 /// other term that of the specification as which it is read.
-fn explanation<A: Allocator + Copy>(
+fn explain_term<A: Allocator + Copy, W: Write>(
     alloc: A,
     keypos: u16,
     term: &Term<A>,
-) -> Result<Vec<u8, A>, ToolFault>
-    ensures ok { IfOk result (λ lines. Explains keypos term.now lines.items) }
-    ensures refused { IfErr result (IsNoQuery term.now) }
+    writer: &mut W,
+) -> Result<(), ToolFault>
+    ensures ok { OnOk result (WritesQuery keypos term.now (W.contents writer.old) (W.contents writer.new)) }
+    ensures stopped { IfErr result (StopsTerm keypos term.now (W.contents writer.old) (W.contents writer.new)) }
 {
     if let View::Binary(bytes) = term.view() {
-        return of_file(alloc, keypos, bytes);
+        return explain_file(alloc, keypos, bytes, writer);
     }
-    of_term(alloc, keypos, term)
+    explain_read(alloc, keypos, term, writer)
 }
 
-/// Returns the explanation of the code of which the bytes are the file.
-fn of_file<A: Allocator + Copy>(
+/// Writes the explanation of the code of which the bytes are the file.
+fn explain_file<A: Allocator + Copy, W: Write>(
     alloc: A,
     keypos: u16,
     bytes: &[u8],
-) -> Result<Vec<u8, A>, ToolFault>
-    ensures ok { IfOk result (λ lines. (p : Program) × IsLoaded bytes.now p
-        × QueryText keypos (coded p) lines.items) }
-    ensures refused { IfErr result (IsUnloaded bytes.now) }
+    writer: &mut W,
+) -> Result<(), ToolFault>
+    ensures ok { OnOk result ((p : Program) × IsLoaded bytes.now p × (text : List ℕ)
+        × QueryText keypos (coded p) text × Appends (W.contents writer.old) (W.contents writer.new) text) }
+    ensures stopped { IfErr result (λ fault.
+        (IsUnloaded bytes.now fault × Keeps (W.contents writer.old) (W.contents writer.new))
+        ⊎ ((p : Program) × IsLoaded bytes.now p
+        × StopsQuery keypos (coded p) (W.contents writer.old) (W.contents writer.new) fault)) }
 {
-    let code = load(alloc, bytes)?;
-    match of_code(alloc, keypos, &code) {
-        Ok(lines) => Ok(lines),
-        Err(AllocError) => Err(ToolFault::Memory),
+    match load(alloc, bytes) {
+        Ok(code) => explain_code(alloc, keypos, &code, writer),
+        Err(fault) => Err(fault),
     }
 }
 
-/// Returns the explanation of the specification as which a term is read.
-fn of_term<A: Allocator + Copy>(
+/// Writes the explanation of the specification as which a term is read.
+fn explain_read<A: Allocator + Copy, W: Write>(
     alloc: A,
     keypos: u16,
     term: &Term<A>,
-) -> Result<Vec<u8, A>, ToolFault>
-    ensures ok { IfOk result (λ lines. (s : Specification) × IsRead term.now s
-        × QueryText keypos (meant s) lines.items) }
-    ensures refused { IfErr result (IsNoSpecification term.now) }
+    writer: &mut W,
+) -> Result<(), ToolFault>
+    ensures ok { OnOk result ((s : Specification) × IsRead term.now s × (text : List ℕ)
+        × QueryText keypos (meant s) text × Appends (W.contents writer.old) (W.contents writer.new) text) }
+    ensures stopped { IfErr result (λ fault.
+        (IsNoSpecification term.now fault × Keeps (W.contents writer.old) (W.contents writer.new))
+        ⊎ ((s : Specification) × IsRead term.now s
+        × StopsQuery keypos (meant s) (W.contents writer.old) (W.contents writer.new) fault)) }
 {
-    let specification = specification_of(alloc, term)?;
-    match of_specification(alloc, keypos, &specification) {
-        Ok(lines) => Ok(lines),
+    match specification_of(alloc, term) {
+        Ok(specification) => explain_specification(alloc, keypos, &specification, writer),
+        Err(fault) => Err(fault),
+    }
+}
+
+/// Writes the explanation of code. Which keys it names is unknown, so its walk visits all objects.
+fn explain_code<A: Allocator + Copy, W: Write>(
+    alloc: A,
+    keypos: u16,
+    code: &Verified<A>,
+    writer: &mut W,
+) -> Result<(), ToolFault>
+    ensures ok { OnOk result ((text : List ℕ) × QueryText keypos (coded code.now) text
+        × Appends (W.contents writer.old) (W.contents writer.new) text) }
+    ensures stopped { IfErr result
+        (StopsQuery keypos (coded code.now) (W.contents writer.old) (W.contents writer.new)) }
+{
+    let mut lines = Vec::new(alloc);
+    match put_whole_walk(keypos, &mut lines) {
+        Ok(()) => write_code(alloc, &[], code, writer, &mut lines),
         Err(AllocError) => Err(ToolFault::Memory),
     }
 }
 
-/// Returns the explanation of code. Which keys it names is unknown, so its walk visits all objects.
-fn of_code<A: Allocator + Copy>(
-    alloc: A,
-    keypos: u16,
-    code: &Verified<A>,
-) -> Result<Vec<u8, A>, AllocError>
-    ensures { IfOk result (λ lines. QueryText keypos (coded code.now) lines.items) }
-{
-    let mut lines = Vec::new(alloc);
-    put_whole_walk(keypos, &mut lines)?;
-    put_code(alloc, &[], code, &mut lines)?;
-    Ok(lines)
-}
-
-/// Returns the explanation of a specification.
-fn of_specification<A: Allocator + Copy>(
+/// Writes the explanation of a specification.
+fn explain_specification<A: Allocator + Copy, W: Write>(
     alloc: A,
     keypos: u16,
     specification: &Spec<A>,
-) -> Result<Vec<u8, A>, AllocError>
-    ensures { IfOk result (λ lines. QueryText keypos (meant specification.now) lines.items) }
+    writer: &mut W,
+) -> Result<(), ToolFault>
+    ensures ok { OnOk result ((text : List ℕ) × QueryText keypos (meant specification.now) text
+        × Appends (W.contents writer.old) (W.contents writer.new) text) }
+    ensures stopped { IfErr result
+        (StopsQuery keypos (meant specification.now) (W.contents writer.old) (W.contents writer.new)) }
 {
     let mut lines = Vec::new(alloc);
-    put_plan(alloc, keypos, specification, &mut lines)?;
-    let code = compile(alloc, specification)?;
-    put_code(
-        alloc,
-        specification.variables().numbers(),
-        &code,
-        &mut lines,
-    )?;
-    Ok(lines)
+    match put_plan(alloc, keypos, specification, &mut lines) {
+        Ok(()) => {}
+        Err(AllocError) => return Err(ToolFault::Memory),
+    }
+    match compile(alloc, specification) {
+        Ok(code) => {
+            let variables = specification.variables().numbers();
+            write_code(alloc, variables, &code, writer, &mut lines)
+        }
+        Err(AllocError) => Err(ToolFault::Memory),
+    }
 }
 
 /// Appends which objects a walk by a specification visits.
@@ -160,16 +182,41 @@ fn put_plan<A: Allocator + Copy>(
     }
 }
 
-/// Appends the bounds and the listing of code, whose slots are those of these variables.
-fn put_code<A: Allocator + Copy>(
+/// Writes the gathered lines, and the bounds and the listing of code after them. The slots of the code are those of these
+/// variables.
+fn write_code<A: Allocator + Copy, W: Write>(
     alloc: A,
     variables: &[u32],
     code: &Verified<A>,
+    writer: &mut W,
     lines: &mut Vec<u8, A>,
-) -> Result<(), AllocError>
-    ensures { OnOk result ((text : List ℕ) × CodeText variables.now code.now text
-        × (lines.new.items ≡ lines.old.items ++ text)) }
+) -> Result<(), ToolFault>
+    ensures ok { OnOk result ((text : List ℕ) × CodeText variables.now code.now text
+        × Appends (W.contents writer.old) (W.contents writer.new) (lines.old.items ++ text)) }
+    ensures stopped { IfErr result (λ fault. (text : List ℕ) × CodeText variables.now code.now text
+        × StopsPassing (lines.old.items ++ text) (W.contents writer.old) (W.contents writer.new) fault) }
 {
-    put_bounds(code.budget(), code.depth(), lines)?;
-    put_listing(alloc, variables, code.code(), lines)
+    match put_bounds(code.budget(), code.depth(), lines) {
+        Ok(()) => write_listing(alloc, variables, code.code(), writer, lines),
+        Err(AllocError) => Err(ToolFault::Memory),
+    }
+}
+
+/// Writes the gathered lines, and the listing of code after them.
+fn write_listing<A: Allocator + Copy, W: Write>(
+    alloc: A,
+    variables: &[u32],
+    code: &Code<A>,
+    writer: &mut W,
+    lines: &mut Vec<u8, A>,
+) -> Result<(), ToolFault>
+    ensures ok { OnOk result (Appends (W.contents writer.old) (W.contents writer.new)
+        (lines.old.items ++ listing variables.now code.now)) }
+    ensures stopped { IfErr result (StopsPassing (lines.old.items ++ listing variables.now code.now)
+        (W.contents writer.old) (W.contents writer.new)) }
+{
+    match pass_listing(alloc, variables, code, writer, lines) {
+        Ok(()) => write_lines(writer, lines),
+        Err(fault) => Err(fault),
+    }
 }

@@ -1,12 +1,17 @@
 //! The lines of code.
-ghost use Rattle.std.specs.Prelude.{◌≡◌, ◌++◌, OnOk, IfOk};
-ghost use Rattle.tool_explain.specs.Listing.{begun_line, instruction_line, numbered, body_lines, routine_text, listing};
+ghost use Rattle.std.specs.Prelude.{◌≡◌, ◌++◌, OnOk, IfOk, IfErr};
+ghost use Rattle.tool_explain.specs.Listing.{begun_line, instruction_line, numbered, body_lines, heading, routine_text};
+ghost use Rattle.tool_explain.specs.Listing.{constant_line, rest_of_listing, listing};
+ghost use Rattle.tool_explain.specs.Passing.{Passes, Stops};
 
-use crate::table::{mnemonic, operand_text, otherwise_text};
+use crate::table::{is_long, mnemonic, operand_text, otherwise_text};
 use crate::text::{put_blanks, put_in_column, put_number};
 use mcode::{Code, Instr, Routine};
 use std::alloc::{AllocError, Allocator};
+use std::io::Write;
 use term_core::Term;
+use term_text::write_term;
+use tool_io::{ToolFault, write_if_many};
 
 /// The width of the column of instruction numbers, in which they are right-aligned.
 const NUMBER_WIDTH: usize = 5;
@@ -54,77 +59,230 @@ fn put_instruction<A: Allocator + Copy>(
     lines.extend_from_slice(line.as_slice())
 }
 
-/// Appends the lines of a body's instructions.
-fn put_instructions<A: Allocator + Copy>(
+/// Appends the line of an instruction, and writes the gathered lines if they are many.
+fn pass_instruction<A: Allocator + Copy, W: Write>(
+    alloc: A,
+    variables: &[u32],
+    constants: &[Term<A>],
+    pc: usize,
+    instr: Instr,
+    writer: &mut W,
+    lines: &mut Vec<u8, A>,
+) -> Result<(), ToolFault>
+    ensures ok { OnOk result (Passes (instruction_line variables.now constants.now pc instr)
+        (W.contents writer.old) (W.contents writer.new) lines.old.items lines.new.items) }
+    ensures stopped { IfErr result (Stops (instruction_line variables.now constants.now pc instr)
+        (W.contents writer.old) (W.contents writer.new) lines.old.items) }
+{
+    match put_instruction(alloc, variables, constants, pc, instr, lines) {
+        Ok(()) => write_if_many(writer, lines),
+        Err(AllocError) => Err(ToolFault::Memory),
+    }
+}
+
+/// Passes the lines of a body's instructions on.
+fn pass_instructions<A: Allocator + Copy, W: Write>(
     alloc: A,
     variables: &[u32],
     constants: &[Term<A>],
     instructions: &[Instr],
+    writer: &mut W,
     lines: &mut Vec<u8, A>,
-) -> Result<(), AllocError>
-    ensures { OnOk result (lines.new.items
-        ≡ lines.old.items ++ body_lines variables.now constants.now instructions.now) }
+) -> Result<(), ToolFault>
+    ensures ok { OnOk result (Passes (body_lines variables.now constants.now instructions.now)
+        (W.contents writer.old) (W.contents writer.new) lines.old.items lines.new.items) }
+    ensures stopped { IfErr result (Stops (body_lines variables.now constants.now instructions.now)
+        (W.contents writer.old) (W.contents writer.new) lines.old.items) }
 {
     for pc in 0..instructions.len() {
-        put_instruction(alloc, variables, constants, pc, instructions[pc], lines)?;
+        let instr = instructions[pc];
+        match pass_instruction(alloc, variables, constants, pc, instr, writer, lines) {
+            Ok(()) => {}
+            Err(fault) => return Err(fault),
+        }
     }
     Ok(())
 }
 
-/// Appends a heading with the number of a routine and how many arguments it has, and then its lines.
-fn put_routine<A: Allocator + Copy>(
-    alloc: A,
-    variables: &[u32],
-    constants: &[Term<A>],
+/// Appends a heading with the number of a routine and how many arguments it has.
+fn put_heading<A: Allocator + Copy>(
     number: usize,
     routine: &Routine<A>,
     lines: &mut Vec<u8, A>,
 ) -> Result<(), AllocError>
-    ensures { OnOk result (lines.new.items
-        ≡ lines.old.items ++ routine_text variables.now constants.now number routine.now) }
+    ensures { OnOk result (lines.new.items ≡ lines.old.items ++ heading number routine.now) }
 {
     lines.extend_from_slice(b"routine ")?;
     put_number(number as u64, lines)?;
     lines.extend_from_slice(b", arguments ")?;
     put_number(routine.arguments().len() as u64, lines)?;
-    lines.push(b'\n')?;
-    put_instructions(alloc, variables, constants, routine.instructions(), lines)
+    lines.extend_from_slice(b"\n")?;
+    Ok(())
 }
 
-/// Appends the texts of routines, numbered from 1.
-fn put_routines<A: Allocator + Copy>(
+/// Passes the heading and the lines of a routine on.
+fn pass_routine<A: Allocator + Copy, W: Write>(
+    alloc: A,
+    variables: &[u32],
+    constants: &[Term<A>],
+    number: usize,
+    routine: &Routine<A>,
+    writer: &mut W,
+    lines: &mut Vec<u8, A>,
+) -> Result<(), ToolFault>
+    ensures ok { OnOk result (Passes (routine_text variables.now constants.now number routine.now)
+        (W.contents writer.old) (W.contents writer.new) lines.old.items lines.new.items) }
+    ensures stopped { IfErr result (Stops (routine_text variables.now constants.now number routine.now)
+        (W.contents writer.old) (W.contents writer.new) lines.old.items) }
+{
+    match put_heading(number, routine, lines) {
+        Ok(()) => pass_instructions(
+            alloc,
+            variables,
+            constants,
+            routine.instructions(),
+            writer,
+            lines,
+        ),
+        Err(AllocError) => Err(ToolFault::Memory),
+    }
+}
+
+/// Passes the texts of routines on, numbered from 1.
+fn pass_routines<A: Allocator + Copy, W: Write>(
     alloc: A,
     variables: &[u32],
     constants: &[Term<A>],
     routines: &[Routine<A>],
+    writer: &mut W,
     lines: &mut Vec<u8, A>,
-) -> Result<(), AllocError>
-    ensures { OnOk result (lines.new.items
-        ≡ lines.old.items ++ numbered (routine_text variables.now constants.now) 1 routines.now) }
+) -> Result<(), ToolFault>
+    ensures ok { OnOk result (Passes (numbered (routine_text variables.now constants.now) 1 routines.now)
+        (W.contents writer.old) (W.contents writer.new) lines.old.items lines.new.items) }
+    ensures stopped { IfErr result (Stops (numbered (routine_text variables.now constants.now) 1 routines.now)
+        (W.contents writer.old) (W.contents writer.new) lines.old.items) }
 {
     for place in 0..routines.len() {
-        put_routine(
+        match pass_routine(
             alloc,
             variables,
             constants,
             place + 1,
             &routines[place],
+            writer,
             lines,
-        )?;
+        ) {
+            Ok(()) => {}
+            Err(fault) => return Err(fault),
+        }
     }
     Ok(())
 }
 
-/// Appends the listing of code, whose slots are those of these variables.
-pub(crate) fn put_listing<A: Allocator + Copy>(
+/// Appends the line of a constant that is too long for the lines of instructions, or nothing.
+fn put_constant<A: Allocator + Copy>(
+    alloc: A,
+    number: usize,
+    constant: &Term<A>,
+    lines: &mut Vec<u8, A>,
+) -> Result<(), AllocError>
+    ensures { OnOk result (lines.new.items ≡ lines.old.items ++ constant_line number constant.now) }
+{
+    let mut text = Vec::new(alloc);
+    write_term(constant, &mut text)?;
+    if !is_long(text.as_slice()) {
+        return Ok(());
+    }
+    lines.extend_from_slice(b"constant ")?;
+    put_number(number as u64, lines)?;
+    lines.extend_from_slice(b": ")?;
+    lines.extend_from_slice(text.as_slice())?;
+    lines.extend_from_slice(b"\n")?;
+    Ok(())
+}
+
+/// Appends the line of a constant, if it has one, and writes the gathered lines if they are many.
+fn pass_constant<A: Allocator + Copy, W: Write>(
+    alloc: A,
+    number: usize,
+    constant: &Term<A>,
+    writer: &mut W,
+    lines: &mut Vec<u8, A>,
+) -> Result<(), ToolFault>
+    ensures ok { OnOk result (Passes (constant_line number constant.now)
+        (W.contents writer.old) (W.contents writer.new) lines.old.items lines.new.items) }
+    ensures stopped { IfErr result (Stops (constant_line number constant.now)
+        (W.contents writer.old) (W.contents writer.new) lines.old.items) }
+{
+    match put_constant(alloc, number, constant, lines) {
+        Ok(()) => write_if_many(writer, lines),
+        Err(AllocError) => Err(ToolFault::Memory),
+    }
+}
+
+/// Passes the lines of constants on, numbered from 0.
+fn pass_constants<A: Allocator + Copy, W: Write>(
+    alloc: A,
+    constants: &[Term<A>],
+    writer: &mut W,
+    lines: &mut Vec<u8, A>,
+) -> Result<(), ToolFault>
+    ensures ok { OnOk result (Passes (numbered constant_line 0 constants.now)
+        (W.contents writer.old) (W.contents writer.new) lines.old.items lines.new.items) }
+    ensures stopped { IfErr result (Stops (numbered constant_line 0 constants.now)
+        (W.contents writer.old) (W.contents writer.new) lines.old.items) }
+{
+    for place in 0..constants.len() {
+        match pass_constant(alloc, place, &constants[place], writer, lines) {
+            Ok(()) => {}
+            Err(fault) => return Err(fault),
+        }
+    }
+    Ok(())
+}
+
+/// Passes the lines of routines, and of the constants that are too long for the lines of instructions, on.
+fn pass_rest<A: Allocator + Copy, W: Write>(
     alloc: A,
     variables: &[u32],
     code: &Code<A>,
+    writer: &mut W,
     lines: &mut Vec<u8, A>,
-) -> Result<(), AllocError>
-    ensures { OnOk result (lines.new.items ≡ lines.old.items ++ listing variables.now code.now) }
+) -> Result<(), ToolFault>
+    ensures ok { OnOk result (Passes (rest_of_listing variables.now code.now)
+        (W.contents writer.old) (W.contents writer.new) lines.old.items lines.new.items) }
+    ensures stopped { IfErr result (Stops (rest_of_listing variables.now code.now)
+        (W.contents writer.old) (W.contents writer.new) lines.old.items) }
 {
     let constants = code.constants();
-    put_instructions(alloc, variables, constants, code.instructions(), lines)?;
-    put_routines(alloc, variables, constants, code.routines(), lines)
+    match pass_routines(alloc, variables, constants, code.routines(), writer, lines) {
+        Ok(()) => pass_constants(alloc, constants, writer, lines),
+        Err(fault) => Err(fault),
+    }
+}
+
+/// Passes the listing of code on, whose slots are those of these variables.
+pub(crate) fn pass_listing<A: Allocator + Copy, W: Write>(
+    alloc: A,
+    variables: &[u32],
+    code: &Code<A>,
+    writer: &mut W,
+    lines: &mut Vec<u8, A>,
+) -> Result<(), ToolFault>
+    ensures ok { OnOk result (Passes (listing variables.now code.now)
+        (W.contents writer.old) (W.contents writer.new) lines.old.items lines.new.items) }
+    ensures stopped { IfErr result (Stops (listing variables.now code.now)
+        (W.contents writer.old) (W.contents writer.new) lines.old.items) }
+{
+    match pass_instructions(
+        alloc,
+        variables,
+        code.constants(),
+        code.instructions(),
+        writer,
+        lines,
+    ) {
+        Ok(()) => pass_rest(alloc, variables, code, writer, lines),
+        Err(fault) => Err(fault),
+    }
 }

@@ -1,7 +1,7 @@
 //! What the columns of a listing have for an instruction.
-ghost use Rattle.std.specs.Prelude.{◌≡◌, IfOk, decimal};
+ghost use Rattle.std.specs.Prelude.{◌≡◌, IfOk, decimal, slice_get};
 ghost use Rattle.tool_explain.specs.Table.{mnemonic, operand_text, otherwise_of, otherwise_text};
-ghost use Rattle.tool_explain.specs.Table.{constant_text, function_text, slot_text};
+ghost use Rattle.tool_explain.specs.Table.{constant_text, found_text, function_text, is_long, slot_text};
 
 use crate::text::put_number;
 use mcode::Instr;
@@ -65,7 +65,32 @@ fn number_text<A: Allocator + Copy>(alloc: A, number: u16) -> Result<Vec<u8, A>,
     Ok(text)
 }
 
+/// How many bytes the text of a constant has at most that stands in an instruction's line.
+const LONGEST_SHOWN: usize = 60;
+
+/// Returns whether the text of a constant is too long for an instruction's line.
+pub(crate) fn is_long(text: &[u8]) -> bool
+    ensures { result ≡ is_long text.now }
+{
+    text.len() > LONGEST_SHOWN
+}
+
 /// Returns the canonical text of a constant, or nothing if there is no constant of this number.
+fn found_text<A: Allocator + Copy>(
+    alloc: A,
+    constants: &[Term<A>],
+    number: u16,
+) -> Result<Vec<u8, A>, AllocError>
+    ensures { IfOk result (λ text. text.items ≡ found_text (slice_get constants.now number)) }
+{
+    let mut text = Vec::new(alloc);
+    if let Some(constant) = constants.get(usize::from(number)) {
+        write_term(constant, &mut text)?;
+    }
+    Ok(text)
+}
+
+/// Returns the text of a constant as an instruction's line has it: its canonical text, or its number if that is long.
 fn constant_text<A: Allocator + Copy>(
     alloc: A,
     constants: &[Term<A>],
@@ -73,11 +98,13 @@ fn constant_text<A: Allocator + Copy>(
 ) -> Result<Vec<u8, A>, AllocError>
     ensures { IfOk result (λ text. text.items ≡ constant_text constants.now number) }
 {
-    let mut text = Vec::new(alloc);
-    if let Some(constant) = constants.get(usize::from(number)) {
-        write_term(constant, &mut text)?;
+    let text = found_text(alloc, constants, number)?;
+    if !is_long(text.as_slice()) {
+        return Ok(text);
     }
-    Ok(text)
+    let mut named = Vec::from_slice(alloc, b"constant ")?;
+    put_number(u64::from(number), &mut named)?;
+    Ok(named)
 }
 
 /// Returns the text of a slot: its variable, as `$1`, or its number if it has no variable, as `#0`.

@@ -158,6 +158,14 @@ impl ToolFault {
         }
     }
 
+    /// Returns the exit status of a command that ends with this fault: 3 if the fault is out of memory, 4 if reading or
+    /// writing failed, else 2.
+    pub fn status(self) -> u8
+        ensures { result ≡ status_of self }
+    {
+        status_of_number(self.number())
+    }
+
     /// Returns up to two arguments that follow the error code: a byte offset in the text or in the file; or an
     /// instruction and its body (left out if it is the main one), or a body alone; or a clause and a variable.
     pub fn arguments(self) -> (Option<u64>, Option<u64>)
@@ -181,21 +189,18 @@ impl ToolFault {
     }
 }
 
-/// Appends the error line to `out`, for example `error E16 0 3` (error code and arguments). Returns the exit status: 3
-/// if the fault is out of memory, 4 if reading or writing failed, else 2. Fails if an allocation fails; `out` is then
-/// unchanged.
+/// Appends the error line to `out`, for example `error E16 0 3` (error code and arguments). Fails if an allocation
+/// fails; `out` is then unchanged.
 pub fn fault_line<A: Allocator + Copy>(
     alloc: A,
     fault: &ToolFault,
     out: &mut Vec<u8, A>,
-) -> Result<u8, AllocError>
-    ensures status { IfOk result (λ status. status ≡ status_of fault.now) }
+) -> Result<(), AllocError>
     ensures ok { OnOk result (out.new.items ≡ out.old.items ++ line_of fault.now) }
     ensures err { OnErr result (out.new.items ≡ out.old.items) }
 {
     let line = line_text(alloc, *fault)?;
-    out.extend_from_slice(line.as_slice())?;
-    Ok(status_of_number(fault.number()))
+    out.extend_from_slice(line.as_slice())
 }
 
 /// Returns the exit status for an error code: 3 for 1 (out of memory), 4 for 70 and above (reading or writing failed),

@@ -4,7 +4,7 @@ use Rattle.std.specs.Io.KnownBytes.{Appends}
 use Rattle.term_core.specs.Datum.{Datum}
 use Rattle.term_core.specs.Datum.Datum.{atom, tuple}
 use Rattle.term_core.specs.Datum.Items.{no_items, item}
-use Rattle.term_text.specs.Text.{Sentences}
+use Rattle.term_text.specs.Text.{Front, Sentence, Sentences}
 use Rattle.term_text.specs.declared.write.Form.{Form}
 use Rattle.tool_io.specs.Lines.{line_in}
 
@@ -56,17 +56,24 @@ pub record AnswersText (r : Report) (Answered : Datum → Option Datum → Type 
   pub spelled : Sentences text objects
   pub lines : AreLines r Answered objects out
 
+-- The lines on the first terms of a text, before a term for which memory ran out; `left` is left after that term.
+pub record AnswersFront (r : Report) (Answered : Datum → Option Datum → Type 0) (text left out : List ℕ)
+    : Type 0 where
+  pub objects : List Datum
+  pub now : List ℕ
+  pub front : Front text objects now
+  pub object : Datum
+  pub last : Sentence now object left
+  pub lines : AreLines r Answered objects out
+
+-- the lines on all terms of a text, or on those before the one for which memory ran out
+abbrev pub AreReported : Report → (Datum → Option Datum → Type 0) → (text out : List ℕ) → Option (List ℕ) → Type 0
+AreReported r Answered text out None = AnswersText r Answered text out
+AreReported r Answered text out (Some left) = AnswersFront r Answered text left out
+
 -- the writer gains the lines on all objects
 pub record WritesLines (r : Report) (Answered : Datum → Option Datum → Type 0)
     (objects : List Datum) (old new : Option (List ℕ)) : Type 0 where
   pub out : List ℕ
   pub lines : AreLines r Answered objects out
   pub gained : Appends old new out
-
--- the writer gains the lines on the first of the objects, maybe none
-pub record WritesBeginning (r : Report) (Answered : Datum → Option Datum → Type 0)
-    (objects : List Datum) (old new : Option (List ℕ)) : Type 0 where
-  pub front : List Datum
-  pub rest : List Datum
-  pub whole : objects ≡ front ++ rest
-  pub written : WritesLines r Answered front old new

@@ -1,24 +1,25 @@
 //! The commands that write the answers on objects.
-ghost use Rattle.std.specs.Prelude.{List, OnOk, IfOk, IfErr};
+ghost use Rattle.std.specs.Prelude.{◌≡◌, List, None, OnOk, IfErr, IfSome, option_map};
 ghost use Rattle.std.specs.Str.{chars};
+ghost use Rattle.std.specs.Io.KnownBytes.{Appends};
 ghost use Rattle.term_core.specs.Datum.{Datum};
 ghost use Rattle.term_text.specs.Text.{Sentences, Front};
 ghost use Rattle.tool_io.specs.Terms.{OfTerms, IsUnspelled};
 ghost use Rattle.tool_query.specs.Answers.Report.{answers, outcomes};
-ghost use Rattle.tool_query.specs.Run.{WritesAnswers, StopsAnswers, Stops, OfItsTerms, StopsAt};
+ghost use Rattle.tool_query.specs.Run.{WritesAnswers, StopsReport, OfItsTerms, StopsReportAt, EndsCut, EndsReport};
 
-use crate::answers::{outcome_lines, run_lines};
+use crate::answers::{Reported, outcome_lines, run_lines};
 use crate::query::{code_of_query, specification_of};
 use std::alloc::Allocator;
 use std::io::{Read, Write};
-use term_core::Term;
 use term_text::{Form, Scratch};
-use tool_io::{ToolFault, first_of, next_of, read_whole, text_of, write_lines};
+use tool_io::{ToolFault, first_of, next_of, out_of_memory, read_whole, text_of, write_lines};
 
 /// Reads a specification or a code file, which is a binary, and objects, up to the reader's end. Writes each answer in
 /// the order of the objects: its text in the given form, a dot and a line feed. A specification is compiled, encoded to
-/// its file and loaded from it. Writes nothing if the input is rejected or memory runs out, although the contract
-/// allows the lines of the first objects if memory runs out.
+/// its file and loaded from it. Writes nothing if the input is rejected. If memory runs out for the answer on an object,
+/// the rest of the text is still read for its faults; if it has none, or can't be read for lack of memory, the answers
+/// on the objects before are written. If memory runs out elsewhere, nothing is written.
 pub fn tool_run<A: Allocator + Copy, R: Read, W: Write>(
     alloc: A,
     form: Form,
@@ -27,17 +28,16 @@ pub fn tool_run<A: Allocator + Copy, R: Read, W: Write>(
 ) -> Result<(), ToolFault>
     ensures ok { OnOk result (OfTerms (R.remaining reader.old) (λ terms.
         WritesAnswers (answers form) terms (W.contents writer.old) (W.contents writer.new))) }
-    ensures refused { IfErr result (λ fault. Stops (R.remaining reader.old)
-        (W.contents writer.old) (W.contents writer.new) fault (λ terms.
-        StopsAnswers (answers form) terms (W.contents writer.old) (W.contents writer.new) fault)) }
+    ensures refused { IfErr result (StopsReport (answers form) (R.remaining reader.old)
+        (W.contents writer.old) (W.contents writer.new)) }
 {
     let input = read_whole(alloc, reader)?;
     run_input(alloc, form, input.as_slice(), writer)
 }
 
 /// Reads a specification and objects, up to the reader's end. Writes a line for each object, using the plain evaluator:
-/// `{ok,A}.` if the answer is `A`, and `false.` if there is none. Writes nothing if the input is rejected or memory
-/// runs out, although the contract allows the lines of the first objects if memory runs out.
+/// `{ok,A}.` if the answer is `A`, and `false.` if there is none. If the input is rejected or memory runs out, it ends
+/// as `tool_run` does.
 pub fn tool_test<A: Allocator + Copy, R: Read, W: Write>(
     alloc: A,
     form: Form,
@@ -46,9 +46,8 @@ pub fn tool_test<A: Allocator + Copy, R: Read, W: Write>(
 ) -> Result<(), ToolFault>
     ensures ok { OnOk result (OfTerms (R.remaining reader.old) (λ terms.
         WritesAnswers (outcomes form) terms (W.contents writer.old) (W.contents writer.new))) }
-    ensures refused { IfErr result (λ fault. Stops (R.remaining reader.old)
-        (W.contents writer.old) (W.contents writer.new) fault (λ terms.
-        StopsAnswers (outcomes form) terms (W.contents writer.old) (W.contents writer.new) fault)) }
+    ensures refused { IfErr result (StopsReport (outcomes form) (R.remaining reader.old)
+        (W.contents writer.old) (W.contents writer.new)) }
 {
     let input = read_whole(alloc, reader)?;
     test_input(alloc, form, input.as_slice(), writer)
@@ -64,16 +63,15 @@ fn run_input<A: Allocator + Copy, W: Write>(
 ) -> Result<(), ToolFault>
     ensures ok { OnOk result (OfItsTerms input.now (λ terms.
         WritesAnswers (answers form) terms (W.contents writer.old) (W.contents writer.new))) }
-    ensures refused { IfErr result (λ fault. StopsAt input.now
-        (W.contents writer.old) (W.contents writer.new) fault (λ terms.
-        StopsAnswers (answers form) terms (W.contents writer.old) (W.contents writer.new) fault)) }
+    ensures refused { IfErr result (StopsReportAt (answers form) input.now
+        (W.contents writer.old) (W.contents writer.new)) }
 {
     let text = text_of(input)?;
     let (first, objects) = first_of(alloc, text)?;
     match code_of_query(alloc, &first) {
         Ok(code) => {
-            let mut lines = run_lines(alloc, form, &code, text, objects)?;
-            write_lines(writer, &mut lines)
+            let reported = run_lines(alloc, form, &code, text, objects)?;
+            finish(alloc, text, reported, writer)
         }
         Err(fault) => {
             read_on(alloc, text, objects)?;
@@ -92,21 +90,60 @@ fn test_input<A: Allocator + Copy, W: Write>(
 ) -> Result<(), ToolFault>
     ensures ok { OnOk result (OfItsTerms input.now (λ terms.
         WritesAnswers (outcomes form) terms (W.contents writer.old) (W.contents writer.new))) }
-    ensures refused { IfErr result (λ fault. StopsAt input.now
-        (W.contents writer.old) (W.contents writer.new) fault (λ terms.
-        StopsAnswers (outcomes form) terms (W.contents writer.old) (W.contents writer.new) fault)) }
+    ensures refused { IfErr result (StopsReportAt (outcomes form) input.now
+        (W.contents writer.old) (W.contents writer.new)) }
 {
     let text = text_of(input)?;
     let (first, objects) = first_of(alloc, text)?;
     match specification_of(alloc, &first) {
         Ok(specification) => {
-            let mut lines = outcome_lines(alloc, form, &specification, text, objects)?;
-            write_lines(writer, &mut lines)
+            let reported = outcome_lines(alloc, form, &specification, text, objects)?;
+            finish(alloc, text, reported, writer)
         }
         Err(fault) => {
             read_on(alloc, text, objects)?;
             Err(fault)
         }
+    }
+}
+
+/// Writes the lines on the terms of `text`, or those on the terms before the one for which memory ran out.
+fn finish<A: Allocator + Copy, W: Write>(
+    alloc: A,
+    text: &str,
+    reported: Reported<'_, A>,
+    writer: &mut W,
+) -> Result<(), ToolFault>
+    ensures ok { OnOk result ((option_map (λ s. chars s.now) reported.entry.left ≡ None)
+        × Appends (W.contents writer.old) (W.contents writer.new) reported.entry.lines.items) }
+    ensures refused { (ds : List Datum) → IfSome (option_map (λ s. chars s.now) reported.entry.left) (Front (chars text.now) ds)
+        → IfErr result (EndsReport text.now (W.contents writer.old) (W.contents writer.new)
+        reported.entry.lines.items (option_map (λ s. chars s.now) reported.entry.left)) }
+{
+    let Reported { lines, left } = reported;
+    let mut lines = lines;
+    match left {
+        None => write_lines(writer, &mut lines),
+        Some(left) => Err(cut_short(alloc, text, left, writer, &mut lines)),
+    }
+}
+
+/// Ends a command for which memory ran out before `left`, what is left of `text`: reads on for faults of the text, and
+/// writes the lines if it finds none. Returns the fault with which the command ends: that of the text, `Memory`, or
+/// `WriteFailed`.
+fn cut_short<A: Allocator + Copy, W: Write>(
+    alloc: A,
+    text: &str,
+    left: &str,
+    writer: &mut W,
+    lines: &mut Vec<u8, A>,
+) -> ToolFault
+    ensures { (ds : List Datum) → Front (chars text.now) ds (chars left.now)
+        → EndsCut text.now (W.contents writer.old) (W.contents writer.new) lines.old.items result }
+{
+    match read_on(alloc, text, left) {
+        Ok(()) | Err(ToolFault::Memory) => out_of_memory(writer, lines),
+        Err(fault) => fault,
     }
 }
 
@@ -122,10 +159,7 @@ fn read_on<A: Allocator + Copy>(alloc: A, text: &str, rest: &str) -> Result<(), 
         let Some((object, after)) = next_of(alloc, &mut scratch, text, left)? else {
             return Ok(());
         };
-        let_go(object);
+        drop(object);
         left = after;
     }
 }
-
-/// Drops a term. The call keeps the drop's proof out of the loop.
-fn let_go<A: Allocator>(_term: Term<A>) {}

@@ -15,9 +15,10 @@ use Rattle.tool_script.specs.declared.script.Script as script_type
 use Rattle.tool_script.specs.Engine.{ArePut, ArePutFirst, IsUnread}
 use Rattle.tool_script.specs.Run.{IsPut}
 use Rattle.tool_script.specs.Script.{ScriptState}
-use Rattle.tool_script.specs.Scripts.{HasState}
+use Rattle.tool_script.specs.Scripts.{AreTaken, HasState}
 use Rattle.tool_script.specs.Shell.{FirstReplies}
 use Rattle.tool_script.proofs.PassLemmas.{replied_more}
+use Rattle.tool_script.proofs.TakenLemmas.{taken_front}
 
 one_more : (rs : List Datum) (r : Datum) → flat_map line rs ++ line r ≡ flat_map line (rs ++ r ∷ [])
 one_more rs r = ap (λ l. flat_map line rs ++ l) (sym (append-nil (line r))) ∙ sym (flat_map-append line rs (r ∷ []))
@@ -51,15 +52,15 @@ module _ {S O A : Type 0} {s : Ghosts S A} {o : Ghosts O A} where
       )
 
   -- memory ran out: the replies before are appended
-  pub put_first : (old mid : script_type.Script S O A s o) (terms : List Datum) (i : ℕ) (first lines more : List ℕ)
-      → ArePut old mid (take i terms) first lines → more ≡ lines → ArePutFirst old terms first more
-  put_first old mid terms i first lines more so_far same = λ st has.
+  pub put_first : (old mid new : script_type.Script S O A s o) (terms : List Datum) (i : ℕ) (first lines more : List ℕ) → i < length terms
+      → ArePut old mid (take i terms) first lines → AreTaken old mid i → AreTaken mid new 1 → more ≡ lines → ArePutFirst old new terms first more
+  put_first old mid new terms i first lines more there so_far taken last same = λ st has.
       let f = so_far st has in
-      (take i terms, drop i terms, f.0, f.1, sym (take-append-drop i terms), f.2, same ∙ f.4)
+      (take i terms, drop i terms, f.0, f.1, sym (take-append-drop i terms), f.2, same ∙ f.4, taken_front old mid new terms i there taken last)
 
   -- the lines of the last text were dropped, so the lines are those of the first replies
-  pub first_replies : (old : script_type.Script S O A s o) (text : List ℕ) (terms : List Datum) (more : List ℕ)
-      → Spells text terms → ArePutFirst old terms [] more → (st : ScriptState) → HasState old st → FirstReplies st text more
-  first_replies old text terms more spells put st has =
+  pub first_replies : (old new : script_type.Script S O A s o) (text : List ℕ) (terms : List Datum) (more : List ℕ)
+      → Spells text terms → ArePutFirst old new terms [] more → (st : ScriptState) → HasState old st → FirstReplies st text more
+  first_replies old new text terms more spells put st has =
       let f = put st has in
       record { front = f.0; rest = f.1; spelled = subst (Spells text) f.4 spells; replies = f.2; after = f.3; replied = f.5; written = f.6 }

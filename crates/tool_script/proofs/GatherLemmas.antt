@@ -1,18 +1,23 @@
 -- Lines of replies that are gathered, and then written.
-use Rattle.std.proofs.Common.{◌≡◌, ℕ, ◌+◌, ◌<◌, Option, List, [], ◌∷◌, ◌++◌, take, drop, get_or, length, flat_map, refl, sym, ap, subst, ◌∙◌, append_assoc}
+use Rattle.std.proofs.Common.{◌≡◌, ℕ, ◌+◌, ◌<◌, inl, inr, Option, List, [], ◌∷◌, ◌++◌, take, drop, get_or, length, flat_map, refl, sym, ap, subst, ◌∙◌, append_assoc}
 use Rattle.std.proofs.lemmas.List.{take_more, append-nil, take-append-drop}
 use Rattle.std.proofs.lemmas.List.Concat.{flat_map-append}
 use Rattle.std.specs.Io.KnownBytes.{Appends}
 use Rattle.term_core.specs.Datum.{Datum}
+use Rattle.part_core.specs.declared.part.Part.{Ghosts}
 use Rattle.tool_io.specs.Lines.{line, Passes, EndsBy}
 use Rattle.tool_io.specs.declared.fault.ToolFault.{ToolFault}
 use Rattle.tool_io.specs.declared.fault.ToolFault.TheVariants as fault
+use Rattle.tool_script.specs.declared.script.Script as script_type
 use Rattle.tool_script.specs.Script.{ScriptState, beginning}
 use Rattle.tool_script.specs.Replied.{IsReply, AreReplies}
 use Rattle.tool_script.specs.Shell.{Replies}
-use Rattle.tool_script.specs.Run.{WritesReplies, StopsReplies}
+use Rattle.tool_script.specs.Scripts.{AreTaken}
+use Rattle.tool_script.specs.Input.{StopsScript, StopsScriptAt}
+use Rattle.tool_script.specs.Run.{WritesReplies, StopsAt, StopsReplies}
 use Rattle.tool_io.proofs.LineLemmas.{appends_join, appends_none}
 use Rattle.tool_script.proofs.PassLemmas.{replied_more}
+use Rattle.tool_script.proofs.TakenLemmas.{taken_front}
 
 are_replies : (st : ScriptState) (ds rs : List Datum) (a : ScriptState) → Replies st ds rs a → AreReplies st ds rs
 are_replies st [] [] a h = tt
@@ -63,16 +68,37 @@ gathered_written terms after old now later lines g p =
       gained = subst (Appends old later) g.text (appends_join old now later g.done lines g.gained p);
     }
 
--- where memory runs out, the lines so far are written
-pub stops_early : (terms : List Datum) (i : ℕ) (after : ScriptState) (old now later : Option (List ℕ)) (lines : List ℕ) (f : ToolFault) → Gathered (take i terms) after old now lines → EndsBy now later lines f → StopsReplies terms old later f
-stops_early terms i after old now later lines fault.Memory g e =
-    record { front = take i terms; rest = drop i terms; whole = sym (take-append-drop i terms); written = gathered_written (take i terms) after old now later lines g e }
-stops_early terms i after old now later lines fault.WriteFailed g e = tt
-stops_early terms i after old now later lines (fault.Text f) g e = absurd e
-stops_early terms i after old now later lines fault.BadInput g e = absurd e
-stops_early terms i after old now later lines (fault.Specification f) g e = absurd e
-stops_early terms i after old now later lines (fault.File f) g e = absurd e
-stops_early terms i after old now later lines (fault.Code f b) g e = absurd e
-stops_early terms i after old now later lines fault.ReadFailed g e = absurd e
-stops_early terms i after old now later lines fault.TooSmall g e = absurd e
-stops_early terms i after old now later lines fault.BadOptions g e = absurd e
+module _ {S O A : Type 0} {s : Ghosts S A} {o : Ghosts O A} where
+  -- where memory runs out, the lines so far are written
+  pub stops_early : (before mid after : script_type.Script S O A s o) (terms : List Datum) (i : ℕ) (st : ScriptState) (old now later : Option (List ℕ)) (lines : List ℕ) (f : ToolFault) → i < length terms
+      → Gathered (take i terms) st old now lines → AreTaken before mid i → AreTaken mid after 1 → EndsBy now later lines f → StopsAt before after terms old later f
+  stops_early before mid after terms i st old now later lines fault.Memory there g taken last e = (
+    record { front = take i terms; rest = drop i terms; whole = sym (take-append-drop i terms); written = gathered_written (take i terms) st old now later lines g e },
+    taken_front before mid after terms i there taken last,
+  )
+  stops_early before mid after terms i st old now later lines fault.WriteFailed there g taken last e = tt
+  stops_early before mid after terms i st old now later lines (fault.Text f) there g taken last e = absurd e
+  stops_early before mid after terms i st old now later lines fault.BadInput there g taken last e = absurd e
+  stops_early before mid after terms i st old now later lines (fault.Specification f) there g taken last e = absurd e
+  stops_early before mid after terms i st old now later lines (fault.File f) there g taken last e = absurd e
+  stops_early before mid after terms i st old now later lines (fault.Code f b) there g taken last e = absurd e
+  stops_early before mid after terms i st old now later lines fault.ReadFailed there g taken last e = absurd e
+  stops_early before mid after terms i st old now later lines fault.TooSmall there g taken last e = absurd e
+  stops_early before mid after terms i st old now later lines fault.BadOptions there g taken last e = absurd e
+
+  -- what the script in memory shows of an early end, without it
+  pub stops_of : (before after : script_type.Script S O A s o) (terms : List Datum) (old new : Option (List ℕ)) (f : ToolFault) → StopsAt before after terms old new f → StopsReplies terms old new f
+  stops_of before after terms old new fault.Memory stops = stops.0
+  stops_of before after terms old new fault.WriteFailed stops = tt
+  stops_of before after terms old new (fault.Text f) stops = absurd stops
+  stops_of before after terms old new fault.BadInput stops = absurd stops
+  stops_of before after terms old new (fault.Specification f) stops = absurd stops
+  stops_of before after terms old new (fault.File f) stops = absurd stops
+  stops_of before after terms old new (fault.Code f b) stops = absurd stops
+  stops_of before after terms old new fault.ReadFailed stops = absurd stops
+  stops_of before after terms old new fault.TooSmall stops = absurd stops
+  stops_of before after terms old new fault.BadOptions stops = absurd stops
+
+  pub script_stops : (before after : script_type.Script S O A s o) (known old new : Option (List ℕ)) (f : ToolFault) → StopsScriptAt before after known old new f → StopsScript known old new f
+  script_stops before after known old new f (inl unspelled) = inl unspelled
+  script_stops before after known old new f (inr (input, is, (terms, spells, stops))) = inr (input, is, (terms, spells, stops_of before after terms old new f stops))

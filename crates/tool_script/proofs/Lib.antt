@@ -17,6 +17,7 @@ mod ShellLemmas
 mod EngineLemmas
 mod RefusalLemmas
 mod GatherLemmas
+mod TakenLemmas
 mod WorkedRows
 mod WorkedWalks
 mod WorkedLines

@@ -10,7 +10,9 @@ use Rattle.std.specs.Io.BufRead.{take_through}
 use Rattle.std.proofs.BufReadLemmas.{through_part, take_through-append, drop_through-append}
 use Rattle.tool_script.specs.declared.line.Progress.{Progress}
 use Rattle.tool_script.specs.declared.line.Progress.TheVariants as progress
-use Rattle.tool_script.specs.Line.{IsLineBefore, IsLine, EndsLine, TakesLine}
+use Rattle.tool_script.specs.declared.line.Within.{Within}
+use Rattle.tool_script.specs.declared.line.Within.TheVariants as within
+use Rattle.tool_script.specs.Line.{IsLineBefore, IsLine, EndsLine, TakesLine, within_after, within_end}
 
 -- bytes that end with their only line feed are a line, whatever follows
 line_before : (line rest : List ℕ) → StopsAt line 10 → EndsLine line progress.More → IsLineBefore line rest
@@ -70,3 +72,22 @@ taken before after old new p front stops lost is ends =
 -- dropping bytes, then taking as many as are left, takes all of them
 pub slice_end : (xs : List ℕ) (n : ℕ) → take (length xs - n) (drop n xs) ≡ drop n xs
 slice_end xs n = take_all (length xs - n) (drop n xs) (omega (arith, length-drop n xs))
+
+-- the bytes before a line that was appended
+pub begun_front : (begun line text : List ℕ) (n : ℕ) → n ≡ length begun → text ≡ begun ++ line → begun ≡ take n text
+begun_front begun line text n size is =
+    sym (take_front begun line) ∙ ap (λ k. take k (begun ++ line)) (sym size) ∙ ap (take n) (sym is)
+  where
+    take_front : (xs ys : List ℕ) → take (length xs) (xs ++ ys) ≡ xs
+    take_front [] ys = refl
+    take_front (x ∷ xs) ys = ap (λ l. x ∷ l) (take_front xs ys)
+
+within_append : (w : Within) (xs ys : List ℕ) → within_end w (xs ++ ys) ≡ within_end (within_end w xs) ys
+within_append w [] ys = refl
+within_append w (x ∷ xs) ys = within_append (within_after w x) xs ys
+
+-- what the end of a text is within, by its front and the line after it
+pub end_kept : (text : List ℕ) (n : ℕ) (w r : Within) → w ≡ within_end within.Nothing (take n text) → r ≡ within_end w (take (length text - n) (drop n text)) → r ≡ within_end within.Nothing text
+end_kept text n w r before is =
+    is ∙ ap (λ v. within_end v (take (length text - n) (drop n text))) before ∙ ap (within_end (within_end within.Nothing (take n text))) (slice_end text n)
+    ∙ sym (within_append within.Nothing (take n text) (drop n text)) ∙ ap (within_end within.Nothing) (take-append-drop n text)

@@ -11,7 +11,8 @@ use Rattle.term_text.specs.Text.{Spells}
 use Rattle.tool_io.specs.Lines.{line}
 use Rattle.tool_script.specs.declared.line.Effect.{Effect}
 use Rattle.tool_script.specs.declared.line.Effect.TheVariants as effect
-use Rattle.tool_script.specs.Line.{first_line, behind_line, is_empty, is_idle, has_dot, effect_of, IsLineBefore, AreWholeLines}
+use Rattle.tool_script.specs.declared.line.Within.TheVariants as within
+use Rattle.tool_script.specs.Line.{first_line, behind_line, is_empty, is_idle, has_dot, within_end, effect_of, IsLineBefore, AreWholeLines}
 use Rattle.tool_script.specs.Laws.{IsUnbroken}
 use Rattle.tool_script.specs.Script.{ScriptState}
 use Rattle.tool_script.specs.Replied.{AreReplies}
@@ -24,7 +25,7 @@ use Rattle.tool_script.proofs.PieceLemmas.{LeftSpelled, spells_behind, spells_no
 -- ---- effects
 
 passes_idle : (l : List ℕ) → effect_of [] l ≡ effect.Passes → is_idle l ≡ true
-passes_idle l is = by (is_idle l) (has_dot l) is
+passes_idle l is = by (is_idle l) (has_dot within.Nothing l) is
   where
     by : (a b : Bool) → (if a then effect.Passes else if b then effect.LooksAt else effect.GoesOn) ≡ effect.Passes → a ≡ true
     by true b e = refl
@@ -32,13 +33,13 @@ passes_idle l is = by (is_idle l) (has_dot l) is
     by false false e = absurd (cc)
 
 gives_up_empty : (begun l : List ℕ) → effect_of begun l ≡ effect.GivesUp → is_empty l ≡ true
-gives_up_empty [] l is = absurd (by (is_idle l) (has_dot l) is)
+gives_up_empty [] l is = absurd (by (is_idle l) (has_dot within.Nothing l) is)
   where
     by : (a b : Bool) → (if a then effect.Passes else if b then effect.LooksAt else effect.GoesOn) ≡ effect.GivesUp → ⊥
     by true b e = absurd (cc)
     by false true e = absurd (cc)
     by false false e = absurd (cc)
-gives_up_empty (c ∷ begun) l is = by (is_empty l) (has_dot l) is
+gives_up_empty (c ∷ begun) l is = by (is_empty l) (has_dot (within_end within.Nothing (c ∷ begun)) l) is
   where
     by : (a b : Bool) → (if a then effect.GivesUp else if b then effect.LooksAt else effect.GoesOn) ≡ effect.GivesUp → a ≡ true
     by true b e = refl

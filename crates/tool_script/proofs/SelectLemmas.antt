@@ -1,7 +1,6 @@
 -- The reply to a session that walks its table.
 use Rattle.std.proofs.Common.{◌≡◌, ◌≢◌, ℕ, ℤ, pos, ◌<◌, List, [], ◌∷◌, ◌++◌, refl, ap, sym, subst, ◌∙◌, Option, Some, None, arith, length, get_or, set, option_map}
 use Rattle.std.specs.Prelude.{IsTrue, negsuc, if◌then◌else◌}
-use Rattle.std.proofs.lemmas.List.{set-get_or}
 use Rattle.std.proofs.lemmas.Option.{none-some}
 use Rattle.std.proofs.lemmas.Bool.{lt-ltb}
 use Rattle.term_core.specs.Datum.{Datum, cells}
@@ -28,7 +27,8 @@ use Rattle.walks.specs.Query.{IsWithin, kept_of, plan_of, walk_of}
 use Rattle.walks.specs.Sights.{Piece, first_position, piece_of, sights_from}
 use Rattle.walks.specs.Whole.{Finishes}
 use Rattle.tool_script.specs.Command.Selection.{Select, SelectMore, SelectCount, SelectDelete}
-use Rattle.tool_script.specs.Continuations.{held_of, IsPlace, AreHeld, IsKept, own_at, spent_at}
+use Rattle.tool_script.specs.declared.continuations.Continuations.{Continuations}
+use Rattle.tool_script.specs.Continuations.{held_of, IsPlace, AreHeld, IsKept, IsSpent, own_at, walk_at}
 use Rattle.tool_script.specs.Course.{Step, Takes}
 use Rattle.tool_script.specs.Course.Course.{Judging}
 use Rattle.tool_script.specs.Held.{Held, held_by}
@@ -37,18 +37,18 @@ use Rattle.tool_script.specs.State.{AreAt, IsAt, IsDone, IsSelected}
 use Rattle.tool_script.specs.Verdict.{IsMeant}
 use Rattle.tool_script.specs.Verdict.Verdict.{Meant, Faulty}
 use Rattle.tool_script.specs.Walks.{Walked, begun, behind_piece, fault_term, judged, piece_step, piece_term}
-use Rattle.tool_script.proofs.ContinuationLemmas.{held_length, held_more, held_place, held_set, not_spent, own_is, own_there, Own}
+use Rattle.tool_script.proofs.ContinuationLemmas.{held_more, held_spent, own_is, own_there, Own}
 
 -- ---- what a term is
 
 -- the reply to a term that is no specification is its fault, and nothing changes
-pub faulty : {A : Type 0} (o : Options) (sees : Views → Type 0) (walks : List (Option (Continuation A))) (d : Datum) (f : SpecFault) (go : Walked → (Datum → Option Datum) → Option (List Datum) → Step Walked) (reply : Datum) (count : ℕ) (w : Walked)
+pub faulty : {A : Type 0} (o : Options) (sees : Views → Type 0) (walks : Continuations A) (d : Datum) (f : SpecFault) (go : Walked → (Datum → Option Datum) → Option (List Datum) → Step Walked) (reply : Datum) (count : ℕ) (w : Walked)
     → (f ≢ spec_fault.Memory) × (reply ≡ fault_term f) → IsRefusal f d → AreAt o sees count walks w
     → Takes (Judging w.table.options d (judged w (go w))) reply (AreAt o sees count walks)
 faulty o sees walks d f go reply count w told refused at = (Faulty f, (told.0, refused), told.1, at)
 
 -- the reply to a term that is a specification depends on what it means
-pub meant : {A : Type 0} (o : Options) (before now : Views → Type 0) (old new : List (Option (Continuation A))) (d : Datum) (answer : Datum → Option Datum) (plan : Option (List Datum)) (go : Walked → (Datum → Option Datum) → Option (List Datum) → Step Walked) (reply : Datum) (count : ℕ) (w : Walked)
+pub meant : {A : Type 0} (o : Options) (before now : Views → Type 0) (old new : Continuations A) (d : Datum) (answer : Datum → Option Datum) (plan : Option (List Datum)) (go : Walked → (Datum → Option Datum) → Option (List Datum) → Step Walked) (reply : Datum) (count : ℕ) (w : Walked)
     → IsMeant o d answer plan → IsDone o before now old new (λ x. go x answer plan) reply → AreAt o before count old w
     → Takes (Judging w.table.options d (judged w (go w))) reply (AreAt o now count new)
 meant o before now old new d answer plan go reply count w means done at =
@@ -63,7 +63,7 @@ seen_of h sees t at = record { options = at.options; states = at.states }
 at_seen : (h : Home) (sees : Views → Type 0) (t : TableState) (v : Views) → sees v → IsSeen h t v → IsAt h.options sees t
 at_seen h sees t v sees_it seen = record { options = seen.options; views = v; seen = sees_it; states = seen.states }
 
-pub selected : {A : Type 0} (law : WholeWalksSelect A) (h : Home) (before now : Views → Type 0) (walks : List (Option (Continuation A))) (d : Datum) (q : Query A) (wanted : ℕ → ℕ) (answers : List Datum)
+pub selected : {A : Type 0} (law : WholeWalksSelect A) (h : Home) (before now : Views → Type 0) (walks : Continuations A) (d : Datum) (q : Query A) (wanted : ℕ → ℕ) (answers : List Datum)
     → IsTrue h.alone → 0 < h.options.parts → IsMeant h.options d (answer_of q.code) (plan_of q h.options)
     → Follows before now (Finishes h (walk_of h Answers q) wanted answers)
     → IsSelected h.options h.number before now walks walks (Select d) (cells answers nil)
@@ -76,7 +76,7 @@ selected law h before now walks d q wanted answers alone some means follows = λ
       record { table = at_seen h now w.table next.0 next.1 done.1; named = at.named; walks = at.walks },
     )
 
-pub counted : {A : Type 0} (law : WholeWalksCount A) (h : Home) (before now : Views → Type 0) (walks : List (Option (Continuation A))) (d : Datum) (q : Query A) (number : ℕ)
+pub counted : {A : Type 0} (law : WholeWalksCount A) (h : Home) (before now : Views → Type 0) (walks : Continuations A) (d : Datum) (q : Query A) (number : ℕ)
     → IsTrue h.alone → 0 < h.options.parts → IsMeant h.options d (answer_of q.code) (plan_of q h.options)
     → Follows before now (FinishesCount h (walk_of h Counts q) number)
     → IsSelected h.options h.number before now walks walks (SelectCount d) (integer (pos number))
@@ -89,7 +89,7 @@ counted law h before now walks d q number alone some means follows = λ count w 
       record { table = at_seen h now w.table next.0 next.1 done.1; named = at.named; walks = at.walks },
     )
 
-pub removed : {A : Type 0} (law : WholeWalksRemove A) (h : Home) (before now : Views → Type 0) (walks : List (Option (Continuation A))) (d : Datum) (q : Query A) (number : ℕ)
+pub removed : {A : Type 0} (law : WholeWalksRemove A) (h : Home) (before now : Views → Type 0) (walks : Continuations A) (d : Datum) (q : Query A) (number : ℕ)
     → IsTrue h.alone → 0 < h.options.parts → IsMeant h.options d (answer_of q.code) (plan_of q h.options)
     → Follows before now (FinishesCount h (walk_of h Deletes q) number)
     → IsSelected h.options h.number before now walks walks (SelectDelete d) (integer (pos number))
@@ -130,7 +130,7 @@ behind_place h q limit at kept piece c count own kept_is at_is along named =
     }
 
 -- the reply to a step is what the definitions say of its piece
-kept_step : {A : Type 0} (h : Home) (now : Views → Type 0) (old new : List (Option (Continuation A))) (q : Query A) (limit : ℕ) (at : Position) (kept : List Datum) (s : step_type.Step A) (v u : Views) (reply : Datum) (count : ℕ) (w : Walked) (given rest : List Datum) (later : Position)
+kept_step : {A : Type 0} (h : Home) (now : Views → Type 0) (old new : Continuations A) (q : Query A) (limit : ℕ) (at : Position) (kept : List Datum) (s : step_type.Step A) (v u : Views) (reply : Datum) (count : ℕ) (w : Walked) (given rest : List Datum) (later : Position)
     → Steps h q limit at kept s v u → IsPieceOf (record { given = given; kept = rest; at = later }) s → IsAlong h q later
     → IsKept s old new reply → IsAt h.options now w.table → h.options.name < count → AreHeld (Some h.options) count old w.walks
     → let go : Step Walked = if is_empty given then (key_or_end None, w) else (piece_term given (length w.walks), record { table = w.table; walks = w.walks ++ Some (behind_piece (walk_held h q limit at kept) (record { given = given; kept = rest; at = later })) ∷ [] }) in
@@ -138,13 +138,12 @@ kept_step : {A : Type 0} (h : Home) (now : Views → Type 0) (old new : List (Op
 kept_step h now old new q limit at kept (step.Piece answers c) v u reply count w [] rest later steps is along kept_is there named held =
     absurd (omega (arith, is.0))
 kept_step h now old new q limit at kept (step.Piece answers c) v u reply count w (d ∷ ds) rest later steps is along kept_is there named held = (
-  kept_is.0 ∙ ap (λ xs. piece_term xs (length old)) is.1 ∙ ap (piece_term (d ∷ ds)) (held_length (Some h.options) count old w.walks held),
+  kept_is.0 ∙ ap (λ xs. piece_term xs old.next) is.1 ∙ ap (piece_term (d ∷ ds)) held.next,
   record {
     table = there;
     named = named;
-    walks = subst (λ cs. AreHeld (Some h.options) count cs (w.walks ++ Some (behind_piece (walk_held h q limit at kept) (record { given = d ∷ ds; kept = rest; at = later })) ∷ [])) (sym kept_is.1)
-        (held_more (Some h.options) count old w.walks (Some c) (Some (behind_piece (walk_held h q limit at kept) (record { given = d ∷ ds; kept = rest; at = later }))) held
-        (behind_place h q limit at kept (record { given = d ∷ ds; kept = rest; at = later }) c count steps.3 is.2 is.3 along named));
+    walks = held_more (Some h.options) count old new w.walks c (Some (behind_piece (walk_held h q limit at kept) (record { given = d ∷ ds; kept = rest; at = later }))) held kept_is.1
+        (behind_place h q limit at kept (record { given = d ∷ ds; kept = rest; at = later }) c count steps.3 is.2 is.3 along named);
   },
 )
 kept_step h now old new q limit at kept (step.End p) v u reply count w [] rest later steps is along kept_is there named held = (
@@ -154,7 +153,7 @@ kept_step h now old new q limit at kept (step.End p) v u reply count w [] rest l
 kept_step h now old new q limit at kept (step.End p) v u reply count w (d ∷ ds) rest later steps is along kept_is there named held =
     absurd (omega (arith, ap length is.0))
 
-pub piece_done : {A : Type 0} (law : StepsArePieces A) (h : Home) (before now : Views → Type 0) (old new : List (Option (Continuation A))) (q : Query A) (limit : ℕ) (at : Position) (kept : List Datum) (s : step_type.Step A) (reply : Datum)
+pub piece_done : {A : Type 0} (law : StepsArePieces A) (h : Home) (before now : Views → Type 0) (old new : Continuations A) (q : Query A) (limit : ℕ) (at : Position) (kept : List Datum) (s : step_type.Step A) (reply : Datum)
     → IsTrue h.alone → 0 < h.options.parts → IsAlong h q at → Follows before now (Steps h q limit at kept s) → IsKept s old new reply
     → IsDone h.options before now old new (λ w. piece_step w (walk_held h q limit at kept)) reply
 piece_done law h before now old new q limit at kept s reply alone some along follows kept_is = λ count w there.
@@ -176,7 +175,7 @@ first_there None parts some = some
 first_there (Some []) parts some = tt
 first_there (Some (k ∷ ks)) parts some = omega arith
 
-pub begun_done : {A : Type 0} (law : StepsArePieces A) (h : Home) (before now : Views → Type 0) (old new : List (Option (Continuation A))) (q : Query A) (limit : ℕ) (s : step_type.Step A) (reply : Datum)
+pub begun_done : {A : Type 0} (law : StepsArePieces A) (h : Home) (before now : Views → Type 0) (old new : Continuations A) (q : Query A) (limit : ℕ) (s : step_type.Step A) (reply : Datum)
     → IsTrue h.alone → 0 < h.options.parts → Follows before now (Steps h q limit (start_of (walk_of h Answers q)) [] s) → IsKept s old new reply
     → IsDone h.options before now old new (λ w. piece_step w (begun w.table.options h.number limit (answer_of q.code) (plan_of q h.options))) reply
 begun_done law h before now old new q limit s reply alone some follows kept_is = λ count w there.
@@ -188,17 +187,14 @@ begun_done law h before now old new q limit s reply alone some follows kept_is =
 -- ---- a walk that goes on
 
 -- the continuation does not exist
-pub stranger : {A : Type 0} (o : Options) (n : ℕ) (sees : Views → Type 0) (old new : List (Option (Continuation A))) (number : ℤ)
-    → own_at old o.name n number ≡ None → new ≡ spent_at old o.name n number
-    → IsSelected o n sees sees old new (SelectMore number) (error 62)
-stranger o n sees old new (pos i) none spent = λ count w at.
-    let place = get_or old i None in
-    let same : new ≡ old = spent ∙ ap (set old i) (not_spent o.name n place none) ∙ set-get_or old i None in
-    let held = own_is o count n place (get_or w.walks i None) (held_place (Some o) count old w.walks i at.walks) ∙ ap (option_map (held_of o)) none in
+pub stranger : {A : Type 0} (o : Options) (n : ℕ) (sees : Views → Type 0) (old new : Continuations A) (number : ℤ)
+    → own_at old o.name n number ≡ None → new ≡ old → IsSelected o n sees sees old new (SelectMore number) (error 62)
+stranger o n sees old new (pos i) none same = λ count w at.
+    let held = own_is o count n (walk_at old i) (get_or w.walks i None) (at.walks.places i) ∙ ap (option_map (held_of o)) none in
     let named = ap (λ (x : Options). held_by x.name n (get_or w.walks i None)) at.table.options ∙ held in
     rw named (refl, record { table = at.table; named = at.named; walks = subst (λ cs. AreHeld (Some o) count cs w.walks) (sym same) at.walks })
-stranger o n sees old new (negsuc i) none spent = λ count w at.
-    (refl, record { table = at.table; named = at.named; walks = subst (λ cs. AreHeld (Some o) count cs w.walks) (sym spent) at.walks })
+stranger o n sees old new (negsuc i) none same = λ count w at.
+    (refl, record { table = at.table; named = at.named; walks = subst (λ cs. AreHeld (Some o) count cs w.walks) (sym same) at.walks })
 
 -- the walk in the place of a continuation
 place_is : {A : Type 0} (o : Options) (count : ℕ) (c : Continuation A) (held : Option Held) → IsPlace (Some o) count (Some c) held → c.table ≡ o.name → IsWithin o c.query c.at
@@ -210,28 +206,26 @@ own_held h c table_is session_is =
     λ i. record { table = table_is i; session = session_is i; answer = answer_of c.query.code; plan = plan_of c.query h.options; limit = c.limit; at = position_of c.at; kept = kept_of c.kept }
 
 -- a session takes only its own walks
-pub own_walk : {A : Type 0} (h : Home) (old : List (Option (Continuation A))) (number : ℤ) (c : Continuation A) → own_at old h.options.name h.number number ≡ Some c → IsOwn h c
+pub own_walk : {A : Type 0} (h : Home) (old : Continuations A) (number : ℤ) (c : Continuation A) → own_at old h.options.name h.number number ≡ Some c → IsOwn h c
 own_walk h old (negsuc i) c own = absurd (none-some c own)
 own_walk h old (pos i) c own =
-    let is : Own h.options.name h.number (get_or old i None) c = own_there h.options.name h.number (get_or old i None) c own in
+    let is : Own h.options.name h.number (walk_at old i) c = own_there h.options.name h.number (walk_at old i) c own in
     (is.table_is, is.session_is)
 
-pub gone_on : {A : Type 0} (law : StepsArePieces A) (h : Home) (before now : Views → Type 0) (old mid new : List (Option (Continuation A))) (number : ℤ) (c : Continuation A) (s : step_type.Step A) (reply : Datum)
-    → IsTrue h.alone → 0 < h.options.parts → own_at old h.options.name h.number number ≡ Some c → mid ≡ spent_at old h.options.name h.number number
+pub gone_on : {A : Type 0} (law : StepsArePieces A) (h : Home) (before now : Views → Type 0) (old mid new : Continuations A) (number : ℤ) (c : Continuation A) (s : step_type.Step A) (reply : Datum)
+    → IsTrue h.alone → 0 < h.options.parts → own_at old h.options.name h.number number ≡ Some c → IsSpent old number mid
     → Follows before now (Steps h c.query c.limit (position_of c.at) (kept_of c.kept) s) → IsKept s mid new reply
     → IsSelected h.options h.number before now old new (SelectMore number) reply
-gone_on law h before now old mid new (negsuc i) c s reply alone some own spent follows kept_is = absurd (none-some c own)
+gone_on law h before now old mid new (negsuc i) c s reply alone some own spent follows kept_is = absurd spent
 gone_on law h before now old mid new (pos i) c s reply alone some own spent follows kept_is = λ count w at.
     let o = h.options in
     let n : ℕ = h.number in
-    let place = get_or old i None in
-    let is : Own o.name n place c = own_there o.name n place c own in
-    let there = held_place (Some o) count old w.walks i at.walks in
+    let is : Own o.name n (walk_at old i) c = own_there o.name n (walk_at old i) c own in
+    let there = at.walks.places i in
     let within = place_is o count c (get_or w.walks i None) (subst (λ x. IsPlace (Some o) count x (get_or w.walks i None)) is.there there) is.table_is in
     let held : held_by o.name n (get_or w.walks i None) ≡ Some (walk_held h c.query c.limit (position_of c.at) (kept_of c.kept)) =
-    own_is o count n place (get_or w.walks i None) there ∙ ap (option_map (held_of o)) own ∙ ap Some (own_held h c is.table_is is.session_is) in
+    own_is o count n (walk_at old i) (get_or w.walks i None) there ∙ ap (option_map (held_of o)) own ∙ ap Some (own_held h c is.table_is is.session_is) in
     let named = ap (λ (x : Options). held_by x.name n (get_or w.walks i None)) at.table.options ∙ held in
-    let gone : mid ≡ set old i None = spent ∙ ap (set old i) is.spent in
     let left : Walked = record { table = w.table; walks = set w.walks i None } in
-    let between : AreAt o before count mid left = record { table = at.table; named = at.named; walks = subst (λ cs. AreHeld (Some o) count cs (set w.walks i None)) (sym gone) (held_set (Some o) count old w.walks i None None at.walks tt) } in
+    let between : AreAt o before count mid left = record { table = at.table; named = at.named; walks = held_spent (Some o) count old mid w.walks i at.walks spent } in
     rw named (piece_done law h before now mid new c.query c.limit (position_of c.at) (kept_of c.kept) s reply alone some within follows kept_is count left between)

@@ -23,10 +23,11 @@ use Rattle.tool_script.specs.declared.line.Effect.TheVariants as effect
 use Rattle.tool_script.specs.declared.line.Progress.{Progress}
 use Rattle.tool_script.specs.declared.line.Progress.TheVariants as progress
 use Rattle.tool_script.specs.declared.script.Script as script_type
-use Rattle.tool_script.specs.Line.{first_line, behind_line, is_empty, has_dot, effect_of, IsLineBefore, IsLine, TakesLine}
+use Rattle.tool_script.specs.declared.line.Within.TheVariants as within
+use Rattle.tool_script.specs.Line.{first_line, behind_line, is_empty, has_dot, within_end, effect_of, IsLineBefore, IsLine, TakesLine}
 use Rattle.tool_script.specs.Run.{IsPut}
 use Rattle.tool_script.specs.Script.{ScriptState, beginning}
-use Rattle.tool_script.specs.Scripts.{HasState}
+use Rattle.tool_script.specs.Scripts.{AreTaken, HasState}
 use Rattle.tool_script.specs.Shell.{Looked, Goes, IsLookedAtNext, FirstReplies, AreFirstReplies, WritesAnswers, WritesFirst, StopsShell, refusal}
 use Rattle.tool_script.specs.Shell.IsLookedAtNext.{by_dot, by_giving_up, behind_line_begun, behind_cut_short}
 use Rattle.tool_script.specs.Shell.Looked.{spelled, cut_short, refused}
@@ -35,6 +36,7 @@ use Rattle.tool_script.specs.Shells.{AreAnswered, StopsTerms, IsRefused, IsLooke
 use Rattle.tool_script.proofs.LineLemmas.{slice_end}
 use Rattle.tool_io.proofs.LineLemmas.{appends_none}
 use Rattle.tool_script.proofs.PassLemmas.{replied_more, consumes_join, passes_none, passes_more, passes_on, passes_put, passes_written}
+use Rattle.tool_script.proofs.TakenLemmas.{taken_front}
 
 -- ---- lines
 
@@ -100,7 +102,7 @@ by_turn false true x y z e is nx ny nz = ny is
 by_turn false false x y z e is nx ny nz = nz is
 
 never_passes : (b : ℕ) (begun l : List ℕ) → effect_of (b ∷ begun) l ≢ effect.Passes
-never_passes b begun l is = by_turn (is_empty l) (has_dot l) effect.GivesUp effect.LooksAt effect.GoesOn effect.Passes is (λ e. absurd (cc)) (λ e. absurd (cc)) (λ e. absurd (cc))
+never_passes b begun l is = by_turn (is_empty l) (has_dot (within_end within.Nothing (b ∷ begun)) l) effect.GivesUp effect.LooksAt effect.GoesOn effect.Passes is (λ e. absurd (cc)) (λ e. absurd (cc)) (λ e. absurd (cc))
 
 pub leads_passed : (st : ScriptState) (begun l : List ℕ) → effect_of begun l ≡ effect.Passes → LeadsOn st begun l [] st []
 leads_passed st [] [] is = λ rest out after before goes. goes
@@ -228,6 +230,10 @@ at_line e text n is =
 module _ {S O A : Type 0} {s : Ghosts S A} {o : Ghosts O A} where
   -- ---- terms
 
+  pub answered_none : (script : script_type.Script S O A s o) (a : Option (List ℕ)) (lines : List ℕ) → AreAnswered script script [] a a lines lines
+  answered_none script a lines = λ st has.
+      ([], st, refl, has, record { part = []; gained = appends_none a; kept = sym (append-nil lines) })
+
   pub answered_more : (old mid new : script_type.Script S O A s o) (terms : List Datum) (i : ℕ) (d e : Datum) (a b c : Option (List ℕ)) (first lines more rest : List ℕ) → i < length terms → d ≡ get_or terms i e
       → AreAnswered old mid (take i terms) a b first lines → IsPut mid new d lines more → Passes b c more rest → AreAnswered old new (take (i + 1) terms) a c first rest
   answered_more old mid new terms i d e a b c first lines more rest there is so_far put passes = λ st has.
@@ -242,9 +248,9 @@ module _ {S O A : Type 0} {s : Ghosts S A} {o : Ghosts O A} where
         subst (λ l. Passes a c l rest) joined (passes_more a b c (first ++ flat_map line f.0) lines (line p.0) rest f.4 (subst (λ l. Passes b c l rest) p.4 passes)),
       )
 
-  pub terms_stop : (old mid : script_type.Script S O A s o) (terms : List Datum) (i : ℕ) (a b : Option (List ℕ)) (first lines more : List ℕ)
-      → AreAnswered old mid (take i terms) a b first lines → more ≡ lines → StopsTerms old terms a b first more fault.Memory
-  terms_stop old mid terms i a b first lines more so_far same = λ st has.
+  pub terms_stop : (old mid new : script_type.Script S O A s o) (terms : List Datum) (i : ℕ) (a b : Option (List ℕ)) (first lines more : List ℕ) → i < length terms
+      → AreAnswered old mid (take i terms) a b first lines → AreTaken old mid i → AreTaken mid new 1 → more ≡ lines → StopsTerms old new terms a b first more fault.Memory
+  terms_stop old mid new terms i a b first lines more there so_far taken last same = λ st has.
       let f = so_far st has in (
         take i terms,
         drop i terms,
@@ -253,6 +259,7 @@ module _ {S O A : Type 0} {s : Ghosts S A} {o : Ghosts O A} where
         sym (take-append-drop i terms),
         f.2,
         subst (λ l. Passes a b (first ++ flat_map line f.0) l) (sym same) f.4,
+        taken_front old mid new terms i there taken last,
       )
 
   -- ---- a text
@@ -268,20 +275,20 @@ module _ {S O A : Type 0} {s : Ghosts S A} {o : Ghosts O A} where
   looked_ok old new is_given_up text ds a b lines more is_kept spells h =
       subst (λ k. IsLookedAt old new is_given_up text k a b lines more) (sym h.0) (looked_spelled old new is_given_up text ds a b lines more spells h.1)
 
-  pub text_stops : (old : script_type.Script S O A s o) (text : List ℕ) (ds : List Datum) (a b : Option (List ℕ)) (lines more : List ℕ) (f : ToolFault)
-      → Spells text ds → StopsTerms old ds a b lines more f → StopsText old text a b lines more f
-  text_stops old text ds a b lines more fault.Memory spells stops = λ st has.
+  pub text_stops : (old new : script_type.Script S O A s o) (text : List ℕ) (ds : List Datum) (a b : Option (List ℕ)) (lines more : List ℕ) (f : ToolFault)
+      → Spells text ds → StopsTerms old new ds a b lines more f → StopsText old text a b lines more f
+  text_stops old new text ds a b lines more fault.Memory spells stops = λ st has.
       let f = stops st has in
       (flat_map line f.2, inr (record { front = f.0; rest = f.1; spelled = subst (Spells text) f.4 spells; replies = f.2; after = f.3; replied = f.5; written = refl }), f.6)
-  text_stops old text ds a b lines more fault.WriteFailed spells stops = tt
-  text_stops old text ds a b lines more (fault.Text g) spells stops = absurd stops
-  text_stops old text ds a b lines more fault.BadInput spells stops = absurd stops
-  text_stops old text ds a b lines more (fault.Specification g) spells stops = absurd stops
-  text_stops old text ds a b lines more (fault.File g) spells stops = absurd stops
-  text_stops old text ds a b lines more (fault.Code g n) spells stops = absurd stops
-  text_stops old text ds a b lines more fault.ReadFailed spells stops = absurd stops
-  text_stops old text ds a b lines more fault.TooSmall spells stops = absurd stops
-  text_stops old text ds a b lines more fault.BadOptions spells stops = absurd stops
+  text_stops old new text ds a b lines more fault.WriteFailed spells stops = tt
+  text_stops old new text ds a b lines more (fault.Text g) spells stops = absurd stops
+  text_stops old new text ds a b lines more fault.BadInput spells stops = absurd stops
+  text_stops old new text ds a b lines more (fault.Specification g) spells stops = absurd stops
+  text_stops old new text ds a b lines more (fault.File g) spells stops = absurd stops
+  text_stops old new text ds a b lines more (fault.Code g n) spells stops = absurd stops
+  text_stops old new text ds a b lines more fault.ReadFailed spells stops = absurd stops
+  text_stops old new text ds a b lines more fault.TooSmall spells stops = absurd stops
+  text_stops old new text ds a b lines more fault.BadOptions spells stops = absurd stops
 
   -- nothing was appended
   pub text_stays : (old : script_type.Script S O A s o) (text : List ℕ) (a : Option (List ℕ)) (lines more : List ℕ) (f : ToolFault) → f ≡ fault.Memory → more ≡ lines → StopsText old text a a lines more f

@@ -2,6 +2,7 @@
 use Rattle.std.proofs.Common.{◌≡◌, [], refl}
 use Rattle.std.specs.Prelude.{codes, false}
 use Rattle.tool_script.specs.declared.line.Effect.TheVariants as effect
+use Rattle.tool_script.specs.declared.line.Within.TheVariants as within
 use Rattle.tool_script.specs.Line.{first_line, behind_line, effect_of, has_dot, AreWholeLines}
 use Rattle.tool_script.specs.Shell.{IsLookedAtNext}
 use Rattle.tool_script.specs.Shell.IsLookedAtNext.{by_dot, by_giving_up, behind_line_begun}
@@ -20,7 +21,7 @@ in_front_of_comment = refl
 begun : effect_of [] (codes "{insert,0,\n") ≡ effect.GoesOn
 begun = refl
 
-inside : has_dot (codes "{a.b,1.5}\n") ≡ false
+inside : has_dot within.Nothing (codes "{a.b,1.5}\n") ≡ false
 inside = refl
 
 -- white space, a comment or the end of the input begins no pending text
@@ -37,8 +38,29 @@ end = refl
 comment_behind : effect_of (codes "{insert,0,\n") (codes "% the object\n") ≡ effect.GoesOn
 comment_behind = refl
 
-comment_with_dot : effect_of (codes "{insert,0,\n") (codes "% the object.\n") ≡ effect.LooksAt
+comment_with_dot : effect_of (codes "{insert,0,\n") (codes "% the object.\n") ≡ effect.GoesOn
 comment_with_dot = refl
+
+-- a dot within quotation marks ends no command, also where they began on a line before; a backslash keeps its mark from
+-- ending them
+quoted : effect_of [] (codes "'a. b\n") ≡ effect.GoesOn
+quoted = refl
+
+quoted_before : effect_of (codes "\"a\n") (codes "b. c\n") ≡ effect.GoesOn
+quoted_before = refl
+
+quoted_to_the_dot : effect_of (codes "'a\n") (codes "b. c'.\n") ≡ effect.LooksAt
+quoted_to_the_dot = refl
+
+other_mark : effect_of (codes "'a\n") (codes "b\". c\n") ≡ effect.GoesOn
+other_mark = refl
+
+escaped_mark : effect_of (codes "'a\\'\n") (codes "b. c\n") ≡ effect.GoesOn
+escaped_mark = refl
+
+-- quotation marks in a comment begin nothing
+mark_in_comment : effect_of (codes "{close% don't\n") (codes "}.\n") ≡ effect.LooksAt
+mark_in_comment = refl
 
 -- the pending text is given up at an empty line and at the end of the input
 empty_behind : effect_of (codes "{insert,0,\n") (codes "\n") ≡ effect.GivesUp

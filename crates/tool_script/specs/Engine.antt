@@ -1,5 +1,5 @@
 -- What an engine makes of the texts of commands that it is given, one after the other.
-use Rattle.std.specs.Prelude.{ℕ, ◌≡◌, ◌⊎◌, flat_map, List, ◌++◌}
+use Rattle.std.specs.Prelude.{ℕ, ◌≡◌, ◌⊎◌, ◌+◌, flat_map, length, List, ◌++◌}
 use Rattle.term_core.specs.Datum.{Datum}
 use Rattle.term_text.specs.Text.{Spells}
 use Rattle.term_text.specs.declared.fault.TextFault.{TextFault}
@@ -12,7 +12,7 @@ use Rattle.tool_script.specs.declared.engine.Halt.{Halt}
 use Rattle.tool_script.specs.declared.engine.Halt.TheVariants as halt
 use Rattle.tool_script.specs.declared.script.Script as script_type
 use Rattle.tool_script.specs.Script.{ScriptState, beginning}
-use Rattle.tool_script.specs.Scripts.{HasState}
+use Rattle.tool_script.specs.Scripts.{AreTaken, HasState}
 use Rattle.tool_script.specs.Shell.{Replies, FirstReplies}
 
 -- the terms are replied to one after the other from the script's state, and the lines of the replies are appended
@@ -22,12 +22,12 @@ ArePut old new terms lines more =
     → (replies : List Datum) × (after : ScriptState) × Replies st terms replies after × HasState new after
     × (more ≡ lines ++ flat_map line replies)
 
--- the first of the terms are replied to, maybe none, and the lines of the replies are appended
-abbrev pub ArePutFirst : {S O A : Type 0} {s : Ghosts S A} {o : Ghosts O A} → script_type.Script S O A s o → List Datum → (lines more : List ℕ) → Type 0
-ArePutFirst old terms lines more =
+-- all terms before the one that was taken up last are replied to, and the lines of the replies are appended
+abbrev pub ArePutFirst : {S O A : Type 0} {s : Ghosts S A} {o : Ghosts O A} → script_type.Script S O A s o → script_type.Script S O A s o → List Datum → (lines more : List ℕ) → Type 0
+ArePutFirst old new terms lines more =
     (st : ScriptState) → HasState old st
     → (front rest replies : List Datum) × (after : ScriptState) × (terms ≡ front ++ rest) × Replies st front replies after
-    × (more ≡ lines ++ flat_map line replies)
+    × (more ≡ lines ++ flat_map line replies) × AreTaken old new (length front + 1)
 
 -- an engine is in this state
 abbrev pub IsIn : {S O A : Type 0} {s : Ghosts S A} {o : Ghosts O A} → engine_type.Engine S O A s o → ScriptState → Type 0

@@ -4,8 +4,8 @@ use Rattle.term_core.specs.Datum.{Datum}
 use Rattle.part_core.specs.declared.part.Part.{Ghosts}
 use Rattle.tables.specs.Local.{AreAfter}
 use Rattle.tool_script.specs.declared.open.OpenTable as open_type
-use Rattle.walks.specs.declared.continuation.Continuation.{Continuation}
 use Rattle.tool_script.specs.Command.{Ask, Selection}
+use Rattle.tool_script.specs.declared.continuations.Continuations.{Continuations}
 use Rattle.tool_script.specs.Continuations.{AreHeld}
 use Rattle.tool_script.specs.Course.{Takes}
 use Rattle.tool_script.specs.Held.{Held}
@@ -33,7 +33,7 @@ IsSessionAnswered old new number ask reply =
 -- the reply to a session's request with a specification, or for a walk, by the number of the session; the table and the
 -- script's walks are in the state after it
 abbrev pub IsSelectionAnswered : {P A : Type 0} {p : Ghosts P A} → open_type.OpenTable P A p → open_type.OpenTable P A p
-    → (old new : List (Option (Continuation A))) → ℤ → Selection → Datum → Type 0
+    → (old new : Continuations A) → ℤ → Selection → Datum → Type 0
 IsSelectionAnswered before now old new number selection reply =
     (count : ℕ) (state : OpenTable) (walks : List (Option Held)) → before.table.options.name < count
     → IsOpen before state → AreHeld (Some before.table.options) count old walks

@@ -1,5 +1,5 @@
 -- What is written for a script, and how that ends early.
-use Rattle.std.specs.Prelude.{ℕ, ◌≡◌, ◌++◌, flat_map, Option, List}
+use Rattle.std.specs.Prelude.{ℕ, ◌≡◌, ◌+◌, ◌++◌, flat_map, length, Option, List}
 use Rattle.std.specs.Io.KnownBytes.{Appends}
 use Rattle.term_core.specs.Datum.{Datum}
 use Rattle.part_core.specs.declared.part.Part.{Ghosts}
@@ -9,7 +9,7 @@ use Rattle.tool_io.specs.declared.fault.ToolFault.TheVariants as fault
 use Rattle.tool_script.specs.declared.script.Script as script_type
 use Rattle.tool_script.specs.Script.{ScriptState, beginning}
 use Rattle.tool_script.specs.Replied.{IsReply, AreReplies}
-use Rattle.tool_script.specs.Scripts.{HasState}
+use Rattle.tool_script.specs.Scripts.{AreTaken, HasState}
 
 -- the line of the reply to a term is appended
 abbrev pub IsPut : {S O A : Type 0} {s : Ghosts S A} {o : Ghosts O A} → script_type.Script S O A s o → script_type.Script S O A s o → Datum → List ℕ → List ℕ → Type 0
@@ -29,6 +29,14 @@ pub record WritesFirstReplies (terms : List Datum) (old new : Option (List ℕ))
   pub rest : List Datum
   pub whole : terms ≡ front ++ rest
   pub written : WritesReplies front old new
+
+-- how a script ends early, seen from the script in memory: out of memory at the command that was taken up last, with the
+-- replies to all commands before it written
+abbrev pub StopsAt : {S O A : Type 0} {s : Ghosts S A} {o : Ghosts O A} → (before after : script_type.Script S O A s o) → List Datum → (old new : Option (List ℕ)) → ToolFault → Type 0
+StopsAt before after terms old new fault.Memory =
+    (first : WritesFirstReplies terms old new) × AreTaken before after (length first.front + 1)
+StopsAt before after terms old new fault.WriteFailed = Unit {0}
+StopsAt before after terms old new f = ⊥
 
 -- how a script ends early: out of memory, with the replies to the first terms written; or the writer failed, and its
 -- contents are unspecified

@@ -1,5 +1,5 @@
 -- A script as the code has it in memory, and the state that it is in.
-use Rattle.std.specs.Prelude.{◌≡◌, ◌<◌, Option, Some, None, IfSome}
+use Rattle.std.specs.Prelude.{ℕ, ◌≡◌, ◌<◌, ◌≤◌, ◌+◌, ◌⊎◌, Option, Some, None, IfSome}
 use Rattle.term_core.specs.Datum.{Datum}
 use Rattle.part_core.specs.declared.part.Part.{Ghosts}
 use Rattle.tables.specs.declared.options.Options.{Options}
@@ -33,7 +33,12 @@ pub record HasState {S O A : Type 0} {s : Ghosts S A} {o : Ghosts O A} (script :
     pub count : st.count ≡ script.count
     pub current : HasTable script.current st.current
     pub named : IfSome (open_options script.current) (λ options. options.name < script.count)
-    pub walks : AreHeld (open_options script.current) script.count script.walks.items st.walks
+    pub walks : AreHeld (open_options script.current) script.count script.walks st.walks
+
+-- These many commands were taken up from one state of the script in memory to another. A count ends at 2^64 - 1, and
+-- says nothing more then.
+abbrev pub AreTaken : {S O A : Type 0} {s : Ghosts S A} {o : Ghosts O A} → script_type.Script S O A s o → script_type.Script S O A s o → ℕ → Type 0
+AreTaken old new n = (new.taken ≡ old.taken + n) ⊎ (18446744073709551615 ≤ new.taken)
 
 -- the reply to a command, after which the script is in its new state
 abbrev pub IsStep : {S O A : Type 0} {s : Ghosts S A} {o : Ghosts O A} → script_type.Script S O A s o → script_type.Script S O A s o → Command → Datum → Type 0

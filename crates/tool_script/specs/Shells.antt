@@ -1,5 +1,5 @@
 -- A shell as the code has it in memory: its script, the pending text, and the lines that are not written yet.
-use Rattle.std.specs.Prelude.{ℕ, ◌≡◌, ◌≢◌, ◌⊎◌, Bool, true, false, Option, IfSome, flat_map, List, [], ◌∷◌, ◌++◌, length}
+use Rattle.std.specs.Prelude.{ℕ, ◌≡◌, ◌≢◌, ◌+◌, ◌⊎◌, Bool, true, false, Option, IfSome, flat_map, List, [], ◌∷◌, ◌++◌, length}
 use Rattle.std.specs.Io.KnownBytes.{Appends, Consumes}
 use Rattle.term_core.specs.Datum.{Datum}
 use Rattle.term_text.specs.declared.fault.TextFault.{TextFault}
@@ -14,7 +14,7 @@ use Rattle.tool_script.specs.declared.line.Progress.TheVariants as progress
 use Rattle.tool_script.specs.declared.script.Script as script_type
 use Rattle.tool_script.specs.Line.{IsLineBefore}
 use Rattle.tool_script.specs.Script.{ScriptState, beginning}
-use Rattle.tool_script.specs.Scripts.{HasState}
+use Rattle.tool_script.specs.Scripts.{AreTaken, HasState}
 use Rattle.tool_script.specs.Shell.{Replies, Looked, Goes, IsLookedAtNext, FirstReplies, AreFirstReplies, IsAnsweredFirst, refusal}
 
 -- terms are replied to, and the lines of the replies are appended to the gathered ones, of which some may have gone to
@@ -25,15 +25,15 @@ AreAnswered old new terms before after lines more =
     → (replies : List Datum) × (behind : ScriptState) × Replies st terms replies behind × HasState new behind
     × Passes before after (lines ++ flat_map line replies) more
 
--- memory ran out while terms were replied to: the lines of the first replies, maybe none, are appended to the gathered
--- ones
-abbrev pub StopsTerms : {S O A : Type 0} {s : Ghosts S A} {o : Ghosts O A} → script_type.Script S O A s o → List Datum → (before after : Option (List ℕ)) → (lines more : List ℕ) → ToolFault → Type 0
-StopsTerms old terms before after lines more fault.Memory =
+-- memory ran out while terms were replied to: the lines of the replies to all terms before the one that was taken up last
+-- are appended to the gathered ones
+abbrev pub StopsTerms : {S O A : Type 0} {s : Ghosts S A} {o : Ghosts O A} → script_type.Script S O A s o → script_type.Script S O A s o → List Datum → (before after : Option (List ℕ)) → (lines more : List ℕ) → ToolFault → Type 0
+StopsTerms old new terms before after lines more fault.Memory =
     (st : ScriptState) → HasState old st
     → (front rest replies : List Datum) × (behind : ScriptState) × (terms ≡ front ++ rest) × Replies st front replies behind
-    × Passes before after (lines ++ flat_map line replies) more
-StopsTerms old terms before after lines more fault.WriteFailed = Unit {0}
-StopsTerms old terms before after lines more f = ⊥
+    × Passes before after (lines ++ flat_map line replies) more × AreTaken old new (length front + 1)
+StopsTerms old new terms before after lines more fault.WriteFailed = Unit {0}
+StopsTerms old new terms before after lines more f = ⊥
 
 -- a rejected text is still pending, or its error reply is appended to the lines
 abbrev pub IsRefused : TextFault → ℕ → (is_given_up is_kept : Bool) → (lines more : List ℕ) → Type 0

@@ -10,8 +10,8 @@ use Rattle.tables.specs.declared.options.Options.{Options}
 use Rattle.tables.specs.Options.{settings_of}
 use Rattle.tables.specs.Turns.{Views}
 use Rattle.tables.specs.OneThread.{TableState}
-use Rattle.walks.specs.declared.continuation.Continuation.{Continuation}
 use Rattle.tool_script.specs.Command.{Ask, Selection}
+use Rattle.tool_script.specs.declared.continuations.Continuations.{Continuations}
 use Rattle.tool_script.specs.Continuations.{AreHeld}
 use Rattle.tool_script.specs.Course.{Step, Takes}
 use Rattle.tool_script.specs.Script.{error, asked}
@@ -30,7 +30,7 @@ IsAnswered o n before now ask reply =
     (t : TableState) → IsAt o before t → (reply ≡ (asked t n ask).0) × IsAt o now (asked t n ask).1
 
 -- A table with the walks of its script is in a state; it is one of `count` tables that were opened.
-pub record AreAt {A : Type 0} (o : Options) (sees : Views → Type 0) (count : ℕ) (cs : List (Option (Continuation A)))
+pub record AreAt {A : Type 0} (o : Options) (sees : Views → Type 0) (count : ℕ) (cs : Continuations A)
     (w : Walked) : Type 0
   where
     pub table : IsAt o sees w.table
@@ -38,7 +38,7 @@ pub record AreAt {A : Type 0} (o : Options) (sees : Views → Type 0) (count : �
     pub walks : AreHeld (Some o) count cs w.walks
 
 -- a step is made, from whatever state the table and the walks are in
-abbrev pub IsDone : {A : Type 0} → Options → (before now : Views → Type 0) → (old new : List (Option (Continuation A)))
+abbrev pub IsDone : {A : Type 0} → Options → (before now : Views → Type 0) → (old new : Continuations A)
     → (Walked → Step Walked) → Datum → Type 0
 IsDone o before now old new go reply =
     (count : ℕ) (w : Walked) → AreAt o before count old w
@@ -47,7 +47,7 @@ IsDone o before now old new go reply =
 -- the reply to a session's request with a specification, or for a walk, after which the table and the walks are in
 -- their new state
 abbrev pub IsSelected : {A : Type 0} → Options → ℕ → (before now : Views → Type 0)
-    → (old new : List (Option (Continuation A))) → Selection → Datum → Type 0
+    → (old new : Continuations A) → Selection → Datum → Type 0
 IsSelected o n before now old new selection reply =
     (count : ℕ) (w : Walked) → AreAt o before count old w
     → Takes (selecting w n selection) reply (AreAt o now count new)

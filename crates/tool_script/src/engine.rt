@@ -21,7 +21,7 @@ pub enum Halt {
 }
 
 /// Replies to these terms, and appends the lines of the replies. Fails if an allocation fails, or if 2^64 - 1 tables
-/// have been opened; the lines are then those of the replies to the first terms.
+/// have been opened; the lines are then those of the replies to all terms before the one that was taken up last.
 fn put_all<S: Part<A> + Drop, O: Part<A> + Drop, A: Allocator + Copy>(
     script: &mut Script<S, O, A>,
     terms: &[Term<A>],
@@ -31,12 +31,10 @@ fn put_all<S: Part<A> + Drop, O: Part<A> + Drop, A: Allocator + Copy>(
     requires ordered { IsTrue (O.serves OrderedSet) }
     ensures ok { OnOk result
         (ArePut script.old script.new terms.now lines.old.items lines.new.items) }
-    ensures err { OnErr result (ArePutFirst script.old terms.now lines.old.items lines.new.items) }
+    ensures err { OnErr result
+        (ArePutFirst script.old script.new terms.now lines.old.items lines.new.items) }
 {
     for term in terms {
-        if script.is_full() {
-            return Err(AllocError);
-        }
         match put_next(script, term, lines) {
             Ok(()) => {}
             Err(AllocError) => return Err(AllocError),

@@ -11,8 +11,8 @@
 //! - A command goes this way: `run` reads it from its term; `script` obeys it, and forwards a session's request to the
 //!   open table; `open` admits the session; `session` performs the call. `specs/Scripts.antt`, `Opened.antt` and
 //!   `State.antt` say which state each is in.
-//! - A request with a specification goes the same way to `walk`, with the walks that can go on (`specs/Verdict.antt`,
-//!   `Walks.antt`); these walks: `specs/Held.antt`, in memory `Continuations.antt`.
+//! - A request with a specification goes the same way to `walk` (`specs/Verdict.antt`, `Walks.antt`), with the walks that
+//!   can go on: `specs/Held.antt`; in memory `continuations`, `specs/Continuations.antt`.
 //! - `reply`: replies and their lines, `specs/Replies.antt`; `run`: a script from a reader to a writer,
 //!   `specs/Input.antt`.
 //! - `shell`: replies as commands arrive, `specs/Shell.antt`, in memory `specs/Shells.antt`; `line`: the lines of its
@@ -25,6 +25,7 @@
 
 mod command;
 mod command_laws;
+mod continuations;
 mod engine;
 mod laws;
 mod line;

@@ -4,7 +4,7 @@ ghost use Rattle.std.specs.Prelude.{◌≡◌, IfOk, IfErr};
 ghost use Rattle.term_text.specs.Character.{is_white_space};
 ghost use Rattle.term_text.specs.TokenReading.{begins_gap};
 ghost use Rattle.tool_io.specs.Input.{IsReadFault};
-ghost use Rattle.tool_script.specs.Line.{is_empty, is_idle, has_dot, effect_of, EndsLine, TakesLine};
+ghost use Rattle.tool_script.specs.Line.{within_after, within_end, is_empty, is_idle, ends_term, has_dot, effect_of, EndsLine, TakesLine};
 
 use std::alloc::Allocator;
 use std::io::{self, BufRead, ErrorKind};
@@ -28,6 +28,72 @@ pub(crate) enum Effect {
     LooksAt,
     /// The pending text is given up: it is examined without the line, for the last time.
     GivesUp,
+}
+
+/// What the next byte of a text is within.
+#[derive(Clone, Copy, Debug, PartialEq, Eq)]
+pub(crate) enum Within {
+    /// Neither a comment nor quotation marks.
+    Nothing,
+    /// A comment, which a line feed ends.
+    Comment,
+    /// These quotation marks, `'` or `"`.
+    Marks(u8),
+    /// These quotation marks, after a backslash.
+    Escape(u8),
+}
+
+impl Within {
+    ghost use Rattle.std.specs.Prelude.{◌≡◌};
+    ghost use Rattle.tool_script.specs.Line.{within_after, within_end};
+
+    /// Returns what the byte after this one is within.
+    fn after(self, byte: u8) -> Self
+        ensures { result ≡ within_after self byte }
+    {
+        match self {
+            Within::Nothing => Within::beginning_with(byte),
+            Within::Comment => { if byte == b'\n' { Within::Nothing } else { self } }
+            Within::Marks(mark) => {
+                if byte == mark {
+                    Within::Nothing
+                } else if byte == b'\\' {
+                    Within::Escape(mark)
+                } else {
+                    self
+                }
+            }
+            Within::Escape(mark) => Within::Marks(mark),
+        }
+    }
+
+    /// Returns what the byte after this one is within, where this one is within nothing.
+    fn beginning_with(byte: u8) -> Self
+        ensures { result ≡ within_after Within.Nothing byte }
+    {
+        if byte == b'%' {
+            Within::Comment
+        } else if byte == b'\'' || byte == b'"' {
+            Within::Marks(byte)
+        } else {
+            Within::Nothing
+        }
+    }
+
+    /// Returns what the byte after these bytes is within.
+    pub(crate) fn end(self, bytes: &[u8]) -> Self
+        ensures { result ≡ within_end self bytes.now }
+    {
+        let mut rest = bytes;
+        let mut within = self;
+        loop {
+            let Some((first, after)) = rest.split_first() else {
+                return within;
+            };
+            within = within.after(*first);
+            rest = after;
+        }
+    }
 }
 
 /// Reads the next line, with its line feed, and appends it to these bytes. Returns `End` if the line has no line feed,
@@ -71,8 +137,9 @@ fn read_fault(error: &io::Error) -> ToolFault
     ToolFault::ReadFailed
 }
 
-/// Returns what a line does after this pending text.
-pub(crate) fn effect_after(begun: &[u8], line: &[u8]) -> Effect
+/// Returns what a line does after this pending text, whose end is within `within`.
+pub(crate) fn effect_after(begun: &[u8], within: Within, line: &[u8]) -> Effect
+    requires { within ≡ within_end Within.Nothing begun.now }
     ensures { result ≡ effect_of begun.now line.now }
 {
     if begun.is_empty() {
@@ -82,7 +149,7 @@ pub(crate) fn effect_after(begun: &[u8], line: &[u8]) -> Effect
     } else if is_empty(line) {
         return Effect::GivesUp;
     }
-    if has_dot(line) {
+    if has_dot(within, line) {
         Effect::LooksAt
     } else {
         Effect::GoesOn
@@ -102,13 +169,13 @@ fn is_empty(line: &[u8]) -> bool
 {
     let mut rest = line;
     loop {
-        let Some((first, behind)) = rest.split_first() else {
+        let Some((first, after)) = rest.split_first() else {
             return true;
         };
         if !is_white_space(*first) {
             return false;
         }
-        rest = behind;
+        rest = after;
     }
 }
 
@@ -118,7 +185,7 @@ fn is_idle(line: &[u8]) -> bool
 {
     let mut rest = line;
     loop {
-        let Some((first, behind)) = rest.split_first() else {
+        let Some((first, after)) = rest.split_first() else {
             return true;
         };
         if *first == b'%' {
@@ -127,7 +194,7 @@ fn is_idle(line: &[u8]) -> bool
         if !is_white_space(*first) {
             return false;
         }
-        rest = behind;
+        rest = after;
     }
 }
 
@@ -141,18 +208,31 @@ fn begins_gap(bytes: &[u8]) -> bool
     }
 }
 
-/// Returns whether the line has a dot followed by white space, a percent sign or the end.
-fn has_dot(line: &[u8]) -> bool
-    ensures { result ≡ has_dot line.now }
+/// Returns whether the line, which begins within `within`, has a dot within nothing that is followed by white space, a
+/// percent sign or the end.
+fn has_dot(within: Within, line: &[u8]) -> bool
+    ensures { result ≡ has_dot within line.now }
 {
     let mut rest = line;
+    let mut within = within;
     loop {
-        let Some((first, behind)) = rest.split_first() else {
+        let Some((first, after)) = rest.split_first() else {
             return false;
         };
-        if *first == b'.' && begins_gap(behind) {
+        if ends_term(within, *first, after) {
             return true;
         }
-        rest = behind;
+        within = within.after(*first);
+        rest = after;
+    }
+}
+
+/// Returns whether a byte is a dot within nothing that white space, a percent sign or the end follows.
+fn ends_term(within: Within, byte: u8, after: &[u8]) -> bool
+    ensures { result ≡ ends_term within byte after.now }
+{
+    match within {
+        Within::Nothing => byte == b'.' && begins_gap(after),
+        Within::Comment | Within::Marks(_) | Within::Escape(_) => false,
     }
 }

@@ -9,9 +9,10 @@ ghost use Rattle.tool_script.specs.Script.{number_within, options_with, is_leavi
 ghost use Rattle.tool_script.specs.State.{IsAt};
 
 use crate::command::{Ask, Selection};
+use crate::continuations::Continuations;
 use crate::reply::CommandReply;
 use crate::session::perform;
-use crate::walk::{Walks, walk};
+use crate::walk::walk;
 use part_core::{MAX_KEYPOS, MAX_PARTS, MAX_SESSIONS, Part, TableKind};
 use std::alloc::{AllocError, Allocator, Global};
 use tables::{LocalTable, Options};
@@ -175,13 +176,13 @@ impl<P: Part<A> + Drop, A: Allocator + Copy> OpenTable<P, A> {
     pub(crate) fn admit_walk(
         &mut self,
         alloc: A,
-        walks: &mut Walks<A>,
+        walks: &mut Continuations<A>,
         number: i64,
         selection: Selection<'_, A>,
     ) -> Result<CommandReply<A>, AllocError>
         ensures options { IfOk result (λ _. self.new.table.options ≡ self.old.table.options) }
         ensures answered { IfOk result (λ reply. IsSelectionAnswered self.old self.new
-            walks.old.items walks.new.items number (selection_of selection.entry) (reply_term reply)) }
+            walks.old walks.new number (selection_of selection.entry) (reply_term reply)) }
     {
         let Some(number) = self.session(number) else {
             return Ok(CommandReply::Error(STRANGER_SESSION));

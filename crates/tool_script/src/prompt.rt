@@ -1,10 +1,11 @@
 //! A shell for a person: it prompts for each line, writes texts as such, and explains errors.
-ghost use Rattle.std.specs.Prelude.{◌≤◌, length, IfErr, IsTrue};
+ghost use Rattle.std.specs.Prelude.{◌≡◌, ◌≤◌, length, take, IfErr, IsTrue, OnOk};
 ghost use Rattle.part_core.specs.declared.kind.TableKind.TheVariants.{OrderedSet};
 ghost use Rattle.part_core.specs.Served.{ServesUnordered};
+ghost use Rattle.tool_script.specs.Line.{within_end};
 ghost use Rattle.tool_script.specs.Prompt.{IsStreamFault};
 
-use crate::line::{Effect, Progress, effect_after, take_line};
+use crate::line::{Effect, Progress, Within, effect_after, take_line};
 use crate::reply::{CommandReply, put_refusal, put_reply};
 use crate::run::reply_to_term;
 use crate::script::Script;
@@ -145,7 +146,8 @@ fn put_terms<A: Allocator + Copy>(
     Ok(())
 }
 
-/// Appends the line of a reply in readable form. A line that is no term within the limits is appended unchanged.
+/// Appends the line of a reply in readable form. A line that is no term within the limits is appended unchanged. Fails if
+/// an allocation fails.
 fn put_read<A: Allocator + Copy>(
     alloc: A,
     line: &[u8],
@@ -153,6 +155,7 @@ fn put_read<A: Allocator + Copy>(
 ) -> Result<(), AllocError> {
     match read_terms(alloc, line) {
         Ok(terms) => put_terms(terms.as_slice(), lines),
+        Err(TextFault::Memory) => Err(AllocError),
         Err(_) => lines.extend_from_slice(line),
     }
 }
@@ -203,9 +206,6 @@ fn put_answer<S: Part<A> + Drop, O: Part<A> + Drop, A: Allocator + Copy>(
     requires unordered { ServesUnordered S.serves }
     requires ordered { IsTrue (O.serves OrderedSet) }
 {
-    if script.is_full() {
-        return Err(AllocError);
-    }
     let reply = reply_to_term(script, term)?;
     put_told(alloc, &reply, lines)
 }
@@ -261,20 +261,22 @@ fn answer_text<S: Part<A> + Drop, O: Part<A> + Drop, A: Allocator + Copy>(
     }
 }
 
-/// Processes the line that begins at `start`, after the pending text. Returns whether the text, with the line, is
-/// pending afterwards.
+/// Processes the line that begins at `start`, after the pending text, whose end is within `within`. Returns whether the
+/// text, with the line, is pending afterwards.
 fn answer_line<S: Part<A> + Drop, O: Part<A> + Drop, A: Allocator + Copy>(
     alloc: A,
     script: &mut Script<S, O, A>,
     text: &[u8],
     start: usize,
+    within: Within,
     lines: &mut Vec<u8, A>,
 ) -> Result<bool, AllocError>
     requires unordered { ServesUnordered S.serves }
     requires ordered { IsTrue (O.serves OrderedSet) }
-    requires within { start ≤ length text.now }
+    requires inside { start ≤ length text.now }
+    requires within { within ≡ within_end Within.Nothing (take start text.now) }
 {
-    match effect_after(&text[..start], &text[start..]) {
+    match effect_after(&text[..start], within, &text[start..]) {
         Effect::Passes => Ok(false),
         Effect::GoesOn => Ok(true),
         Effect::LooksAt => answer_text(alloc, script, text, false, lines),
@@ -288,38 +290,51 @@ fn answer_taken<S: Part<A> + Drop, O: Part<A> + Drop, A: Allocator + Copy>(
     script: &mut Script<S, O, A>,
     text: &[u8],
     start: usize,
+    within: Within,
     progress: Progress,
     lines: &mut Vec<u8, A>,
 ) -> Result<bool, AllocError>
     requires unordered { ServesUnordered S.serves }
     requires ordered { IsTrue (O.serves OrderedSet) }
-    requires within { start ≤ length text.now }
+    requires inside { start ≤ length text.now }
+    requires within { within ≡ within_end Within.Nothing (take start text.now) }
 {
     match progress {
         Progress::More => {}
         Progress::End => lines.extend_from_slice(b"\n")?,
     }
-    answer_line(alloc, script, text, start, lines)
+    answer_line(alloc, script, text, start, within, lines)
 }
 
-/// Reads the next line of the input after the pending text, and processes it. Returns whether the input may go on.
-/// Fails with `Memory` or `ReadFailed`.
+/// Reads the next line of the input after the pending text, whose end is within `within`, and processes it. Returns
+/// whether the input may go on. Fails with `Memory` or `ReadFailed`.
 fn answer_next<S: Part<A> + Drop, O: Part<A> + Drop, A: Allocator + Copy, B: BufRead>(
     alloc: A,
     script: &mut Script<S, O, A>,
     input: &mut B,
     begun: &mut Vec<u8, A>,
+    within: &mut Within,
     lines: &mut Vec<u8, A>,
 ) -> Result<Progress, ToolFault>
     requires unordered { ServesUnordered S.serves }
     requires ordered { IsTrue (O.serves OrderedSet) }
-    ensures { IfErr result IsStreamFault }
+    requires within { within.old ≡ within_end Within.Nothing begun.old.items }
+    ensures within { OnOk result (within.new ≡ within_end Within.Nothing begun.new.items) }
+    ensures failed { IfErr result IsStreamFault }
 {
     let start = begun.len();
     let progress = take_line(input, begun)?;
-    match answer_taken(alloc, script, begun.as_slice(), start, progress, lines) {
+    match answer_taken(
+        alloc,
+        script,
+        begun.as_slice(),
+        start,
+        *within,
+        progress,
+        lines,
+    ) {
         Ok(is_kept) => {
-            keep(begun, is_kept);
+            *within = keep(begun, start, *within, is_kept);
             Ok(progress)
         }
         Err(AllocError) => Err(ToolFault::Memory),
@@ -390,10 +405,11 @@ fn answer_input<S: Part<A> + Drop, O: Part<A> + Drop, A: Allocator + Copy, R: Re
     ensures { IfErr result IsStreamFault }
 {
     let mut begun = Vec::new(alloc);
+    let mut within = Within::Nothing;
     let mut lines = Vec::new(alloc);
     for _line in 0..u64::MAX {
         ask(!begun.is_empty(), input.buffer(), writer, &mut lines)?;
-        match answer_next(alloc, script, input, &mut begun, &mut lines) {
+        match answer_next(alloc, script, input, &mut begun, &mut within, &mut lines) {
             Ok(Progress::More) => {}
             Ok(Progress::End) => return finish(alloc, script, begun.as_slice(), writer, &mut lines),
             Err(fault) => return Err(told(fault, writer, &mut lines)),

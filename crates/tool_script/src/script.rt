@@ -1,8 +1,8 @@
 //! A script between two commands.
 use crate::command::{Ask, Command, Selection};
+use crate::continuations::Continuations;
 use crate::open::{OpenTable, options_in};
 use crate::reply::CommandReply;
-use crate::walk::{Walks, let_go};
 use part_core::{OpenFault, Part, TableKind};
 use std::alloc::{AllocError, Allocator, Global};
 use std::mem;
@@ -53,12 +53,14 @@ impl<S: Part<A> + Drop, O: Part<A> + Drop, A: Allocator + Copy> Current<S, O, A>
     }
 }
 
-/// The open table, if there is one; the number of tables opened so far; and the walks that can go on.
+/// The open table, if there is one; the number of tables opened so far; the walks that can go on; and the number of
+/// commands taken up so far.
 pub(crate) struct Script<S: Part<A> + Drop, O: Part<A> + Drop, A: Allocator = Global> {
     alloc: A,
     current: Current<S, O, A>,
     count: u64,
-    walks: Walks<A>,
+    walks: Continuations<A>,
+    taken: u64,
 }
 
 /// By hand: a function that drops one has one call in its proof, and not a case for each way in which its parts are dropped.
@@ -69,6 +71,7 @@ impl<S: Part<A> + Drop, O: Part<A> + Drop, A: Allocator> Drop for Script<S, O, A
             current,
             count: _count,
             walks,
+            taken: _taken,
         } = self;
         drop(alloc);
         drop(current);
@@ -77,37 +80,41 @@ impl<S: Part<A> + Drop, O: Part<A> + Drop, A: Allocator> Drop for Script<S, O, A
 }
 
 impl<S: Part<A> + Drop, O: Part<A> + Drop, A: Allocator + Copy> Script<S, O, A> {
-    ghost use Rattle.std.specs.Prelude.{◌≡◌, ◌≤◌, ◌<◌, ◌+◌, IfOk, IsFalse, IsTrue};
+    ghost use Rattle.std.specs.Prelude.{◌≡◌, IfOk, IsTrue};
     ghost use Rattle.part_core.specs.declared.kind.TableKind.TheVariants.{OrderedSet};
     ghost use Rattle.part_core.specs.Served.{ServesUnordered};
     ghost use Rattle.tool_script.specs.Command.Command.{Open, Session, Walk, Close};
     ghost use Rattle.tool_script.specs.Commands.{ask_of, command_of, selection_of};
     ghost use Rattle.tool_script.specs.Replies.{reply_term};
-    ghost use Rattle.tool_script.specs.Script.{beginning};
-    ghost use Rattle.tool_script.specs.Scripts.{HasState, IsStep};
+    ghost use Rattle.tool_script.specs.Script.{ScriptState, beginning};
+    ghost use Rattle.tool_script.specs.Scripts.{AreTaken, HasState, IsStep};
 
-    /// Returns a script at its beginning: no table was opened.
+    /// Returns a script at its beginning: no table was opened, and no command taken up.
     pub(crate) fn new(alloc: A) -> Self
         ensures state { HasState result beginning }
-        ensures count { result.count ≡ 0 }
+        ensures taken { result.taken ≡ 0 }
     {
         Script {
             alloc,
             current: Current::NoTable,
             count: 0,
-            walks: Vec::new(alloc),
+            walks: Continuations::new(alloc),
+            taken: 0,
         }
     }
 
-    /// Returns whether 2^64 - 1 tables were opened, so that no more can be counted.
-    pub(crate) fn is_full(&self) -> bool
-        ensures { IsFalse result → self.now.count < 18446744073709551615 }
+    /// Counts a command that is taken up. The count ends at 2^64 - 1.
+    pub(crate) fn take_up(&mut self)
+        ensures taken { AreTaken self.old self.new 1 }
+        ensures same { (st : ScriptState) → HasState self.old st → HasState self.new st }
     {
-        self.count == u64::MAX
+        if self.taken < u64::MAX {
+            self.taken += 1;
+        }
     }
 
     /// Opens a table. Replies with error 65 if a table is open, and with error 60 if the options are outside their
-    /// ranges. Fails if an allocation fails.
+    /// ranges. Fails if an allocation fails, or if 2^64 - 1 tables have been opened.
     fn open(
         &mut self,
         kind: TableKind,
@@ -117,8 +124,7 @@ impl<S: Part<A> + Drop, O: Part<A> + Drop, A: Allocator + Copy> Script<S, O, A> 
     ) -> Result<CommandReply<A>, AllocError>
         requires unordered { ServesUnordered S.serves }
         requires ordered { IsTrue (O.serves OrderedSet) }
-        requires count { self.old.count < 18446744073709551615 }
-        ensures count { self.new.count ≤ self.old.count + 1 }
+        ensures taken { self.new.taken ≡ self.old.taken }
         ensures answered { IfOk result (λ reply.
             IsStep self.old self.new (Open kind keypos parts sessions) (reply_term reply)) }
     {
@@ -128,20 +134,23 @@ impl<S: Part<A> + Drop, O: Part<A> + Drop, A: Allocator + Copy> Script<S, O, A> 
         let Some(options) = options_in(self.count, kind, keypos, parts, sessions) else {
             return Ok(CommandReply::Error(OpenFault::BadOptions.number()));
         };
+        let Some(count) = self.count.checked_add(1) else {
+            return Err(AllocError);
+        };
         let table = Current::open(self.alloc, options)?;
         drop(mem::replace(&mut self.current, table));
-        self.count += 1;
+        self.count = count;
         Ok(CommandReply::Flag(true))
     }
 
     /// Closes the table and replies with its objects in walk order; error 65 if none is open. Drops the walks, which
     /// can't go on any more.
     fn close(&mut self) -> Result<CommandReply<A>, AllocError>
-        ensures count { self.new.count ≡ self.old.count }
+        ensures taken { self.new.taken ≡ self.old.taken }
         ensures answered { IfOk result (λ reply.
             IsStep self.old self.new Close (reply_term reply)) }
     {
-        let_go(self.walks.as_mut_slice());
+        self.walks.clear();
         match mem::replace(&mut self.current, Current::NoTable) {
             Current::Unordered(table) => Ok(CommandReply::Objects(table.close(self.alloc)?)),
             Current::Ordered(table) => Ok(CommandReply::Objects(table.close(self.alloc)?)),
@@ -151,7 +160,7 @@ impl<S: Part<A> + Drop, O: Part<A> + Drop, A: Allocator + Copy> Script<S, O, A> 
 
     /// Passes a session's request to the open table. Replies with error 65 if none is open.
     fn forward(&mut self, number: i64, ask: Ask<'_, A>) -> Result<CommandReply<A>, AllocError>
-        ensures count { self.new.count ≡ self.old.count }
+        ensures taken { self.new.taken ≡ self.old.taken }
         ensures answered { IfOk result (λ reply.
             IsStep self.old self.new (Session number (ask_of ask.entry)) (reply_term reply)) }
     {
@@ -168,7 +177,7 @@ impl<S: Part<A> + Drop, O: Part<A> + Drop, A: Allocator + Copy> Script<S, O, A> 
         number: i64,
         selection: Selection<'_, A>,
     ) -> Result<CommandReply<A>, AllocError>
-        ensures count { self.new.count ≡ self.old.count }
+        ensures taken { self.new.taken ≡ self.old.taken }
         ensures answered { IfOk result (λ reply.
             IsStep self.old self.new (Walk number (selection_of selection.entry)) (reply_term reply)) }
     {
@@ -181,12 +190,11 @@ impl<S: Part<A> + Drop, O: Part<A> + Drop, A: Allocator + Copy> Script<S, O, A> 
         }
     }
 
-    /// Obeys a command and returns the reply. Fails if an allocation fails.
+    /// Obeys a command and returns the reply. Fails if an allocation fails, or if 2^64 - 1 tables have been opened.
     pub(crate) fn obey(&mut self, command: Command<'_, A>) -> Result<CommandReply<A>, AllocError>
         requires unordered { ServesUnordered S.serves }
         requires ordered { IsTrue (O.serves OrderedSet) }
-        requires count { self.old.count < 18446744073709551615 }
-        ensures count { self.new.count ≤ self.old.count + 1 }
+        ensures taken { self.new.taken ≡ self.old.taken }
         ensures answered { IfOk result (λ reply.
             IsStep self.old self.new (command_of command.entry) (reply_term reply)) }
     {

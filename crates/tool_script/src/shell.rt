@@ -5,13 +5,13 @@ ghost use Rattle.part_core.specs.declared.kind.TableKind.TheVariants.{OrderedSet
 ghost use Rattle.part_core.specs.Served.{ServesUnordered};
 ghost use Rattle.tool_io.specs.Lines.{Passes};
 ghost use Rattle.tool_io.specs.Terms.{OfInput};
-ghost use Rattle.tool_script.specs.Run.{IsPut};
+ghost use Rattle.tool_script.specs.Line.{within_end};
 ghost use Rattle.tool_script.specs.Script.{beginning};
 ghost use Rattle.tool_script.specs.Scripts.{HasState};
 ghost use Rattle.tool_script.specs.Shell.{WritesAnswers, StopsShell};
 ghost use Rattle.tool_script.specs.Shells.{AreAnswered, StopsTerms, IsRefused, IsLookedAt, StopsText, StopsLine, IsLineAnswered, Stands, StopsHolding, IsToldBy};
 
-use crate::line::{Effect, Progress, effect_after, take_line};
+use crate::line::{Effect, Progress, Within, effect_after, take_line};
 use crate::reply::put_refusal;
 use crate::run::put_next;
 use crate::script::Script;
@@ -22,26 +22,9 @@ use term_core::Term;
 use term_text::{TextFault, read_terms};
 use tool_io::{ToolFault, write_if_many, write_lines};
 
-/// Appends the line of the reply to a term. Fails if an allocation fails, or if 2^64 - 1 tables have been opened.
-fn put_counted<S: Part<A> + Drop, O: Part<A> + Drop, A: Allocator + Copy>(
-    script: &mut Script<S, O, A>,
-    term: &Term<A>,
-    lines: &mut Vec<u8, A>,
-) -> Result<(), AllocError>
-    requires unordered { ServesUnordered S.serves }
-    requires ordered { IsTrue (O.serves OrderedSet) }
-    ensures ok { OnOk result
-        (IsPut script.old script.new term.now lines.old.items lines.new.items) }
-    ensures err { OnErr result (lines.new.items ≡ lines.old.items) }
-{
-    if script.is_full() {
-        return Err(AllocError);
-    }
-    put_next(script, term, lines)
-}
-
 /// Appends the lines of the replies to these terms, and writes the gathered lines whenever they have at least 65,536
-/// bytes. Returns `false`: nothing is pending any more.
+/// bytes. Returns `false`: nothing is pending any more. If memory runs out, the lines are those of the replies to all
+/// terms before the one that was taken up last.
 fn put_replies<S: Part<A> + Drop, O: Part<A> + Drop, A: Allocator + Copy, W: Write>(
     script: &mut Script<S, O, A>,
     terms: &[Term<A>],
@@ -52,11 +35,11 @@ fn put_replies<S: Part<A> + Drop, O: Part<A> + Drop, A: Allocator + Copy, W: Wri
     requires ordered { IsTrue (O.serves OrderedSet) }
     ensures ok { IfOk result (λ is_kept. (is_kept ≡ false) × AreAnswered script.old script.new terms.now
         (W.contents writer.old) (W.contents writer.new) lines.old.items lines.new.items) }
-    ensures stopped { IfErr result (StopsTerms script.old terms.now
+    ensures stopped { IfErr result (StopsTerms script.old script.new terms.now
         (W.contents writer.old) (W.contents writer.new) lines.old.items lines.new.items) }
 {
     for term in terms {
-        match put_counted(script, term, lines) {
+        match put_next(script, term, lines) {
             Ok(()) => write_if_many(writer, lines)?,
             Err(AllocError) => return Err(ToolFault::Memory),
         }
@@ -130,19 +113,21 @@ fn answer_text<S: Part<A> + Drop, O: Part<A> + Drop, A: Allocator + Copy, W: Wri
     }
 }
 
-/// Processes the line that begins at `start`, after the pending text. Returns whether the text, with the line, is
-/// pending afterwards.
+/// Processes the line that begins at `start`, after the pending text, whose end is within `within`. Returns whether the
+/// text, with the line, is pending afterwards.
 fn answer_line<S: Part<A> + Drop, O: Part<A> + Drop, A: Allocator + Copy, W: Write>(
     alloc: A,
     script: &mut Script<S, O, A>,
     text: &[u8],
     start: usize,
+    within: Within,
     writer: &mut W,
     lines: &mut Vec<u8, A>,
 ) -> Result<bool, ToolFault>
     requires unordered { ServesUnordered S.serves }
     requires ordered { IsTrue (O.serves OrderedSet) }
-    requires within { start ≤ length text.now }
+    requires inside { start ≤ length text.now }
+    requires within { within ≡ within_end Within.Nothing (take start text.now) }
     ensures ok { IfOk result (λ is_kept. IsLineAnswered script.old script.new
         (take start text.now) (drop start text.now) is_kept
         (W.contents writer.old) (W.contents writer.new) lines.old.items lines.new.items) }
@@ -150,7 +135,7 @@ fn answer_line<S: Part<A> + Drop, O: Part<A> + Drop, A: Allocator + Copy, W: Wri
         (take start text.now) (drop start text.now)
         (W.contents writer.old) (W.contents writer.new) lines.old.items lines.new.items) }
 {
-    match effect_after(&text[..start], &text[start..]) {
+    match effect_after(&text[..start], within, &text[start..]) {
         Effect::Passes => Ok(false),
         Effect::GoesOn => Ok(true),
         Effect::LooksAt => answer_text(alloc, script, text, false, writer, lines),
@@ -174,26 +159,41 @@ pub(crate) fn write_before<A: Allocator, W: Write>(
     write_lines(writer, lines)
 }
 
-/// Clears the pending text unless it is still pending.
-pub(crate) fn keep<A: Allocator>(begun: &mut Vec<u8, A>, is_kept: bool)
-    ensures { begun.new.items ≡ (if is_kept then begun.old.items else []) }
+/// Clears the pending text unless it is still pending. Returns what its end is within; `within` is what the line that
+/// begins at `start` is within.
+pub(crate) fn keep<A: Allocator>(
+    begun: &mut Vec<u8, A>,
+    start: usize,
+    within: Within,
+    is_kept: bool,
+) -> Within
+    requires inside { start ≤ length begun.old.items }
+    requires within { within ≡ within_end Within.Nothing (take start begun.old.items) }
+    ensures kept { begun.new.items ≡ (if is_kept then begun.old.items else []) }
+    ensures within { result ≡ within_end Within.Nothing begun.new.items }
 {
-    if !is_kept {
-        begun.clear();
+    if is_kept {
+        return within.end(&begun[start..]);
     }
+    begun.clear();
+    Within::Nothing
 }
 
-/// Reads the next line of the input after the pending text, and processes it. Returns whether the input may go on.
+/// Reads the next line of the input after the pending text, whose end is within `within`, and processes it. Returns
+/// whether the input may go on.
 fn answer_next<S: Part<A> + Drop, O: Part<A> + Drop, A: Allocator + Copy, B: BufRead, W: Write>(
     alloc: A,
     script: &mut Script<S, O, A>,
     input: &mut B,
     begun: &mut Vec<u8, A>,
+    within: &mut Within,
     writer: &mut W,
     lines: &mut Vec<u8, A>,
 ) -> Result<Progress, ToolFault>
     requires unordered { ServesUnordered S.serves }
     requires ordered { IsTrue (O.serves OrderedSet) }
+    requires within { within.old ≡ within_end Within.Nothing begun.old.items }
+    ensures within { OnOk result (within.new ≡ within_end Within.Nothing begun.new.items) }
     ensures ok { IfOk result (λ progress. (known old : Option (List ℕ))
         → Stands script.old Progress.More known (B.remaining input.old) old (W.contents writer.old)
         begun.old.items lines.old.items
@@ -206,9 +206,17 @@ fn answer_next<S: Part<A> + Drop, O: Part<A> + Drop, A: Allocator + Copy, B: Buf
 {
     let start = begun.len();
     let progress = take_line(input, begun)?;
-    match answer_line(alloc, script, begun.as_slice(), start, writer, lines) {
+    match answer_line(
+        alloc,
+        script,
+        begun.as_slice(),
+        start,
+        *within,
+        writer,
+        lines,
+    ) {
         Ok(is_kept) => {
-            keep(begun, is_kept);
+            *within = keep(begun, start, *within, is_kept);
             Ok(progress)
         }
         Err(fault) => Err(fault),
@@ -274,10 +282,19 @@ fn answer_input<S: Part<A> + Drop, O: Part<A> + Drop, A: Allocator + Copy, R: Re
         (W.contents writer.old) (W.contents writer.new)) }
 {
     let mut begun = Vec::new(alloc);
+    let mut within = Within::Nothing;
     let mut lines = Vec::new(alloc);
     for _line in 0..u64::MAX {
         write_before(input.buffer(), writer, &mut lines)?;
-        match answer_next(alloc, script, input, &mut begun, writer, &mut lines) {
+        match answer_next(
+            alloc,
+            script,
+            input,
+            &mut begun,
+            &mut within,
+            writer,
+            &mut lines,
+        ) {
             Ok(Progress::More) => {}
             Ok(Progress::End) => return finish(alloc, script, begun.as_slice(), writer, &mut lines),
             Err(fault) => return Err(told(fault, writer, &mut lines)),
@@ -288,7 +305,7 @@ fn answer_input<S: Part<A> + Drop, O: Part<A> + Drop, A: Allocator + Copy, R: Re
 
 /// Reads commands line by line, up to the reader's end, and writes the line of the reply to each as they arrive. Sets
 /// and bags are made of parts `S`, ordered sets of parts `O`. The pending text is examined when a line has a dot before
-/// white space, `%` or its end. If it spells terms, these are replied to. If it ends too early, the next line is
+/// white space, `%` or its end, outside of comments and quotation marks. If it spells terms, these are replied to. If it ends too early, the next line is
 /// appended to it; an empty line or the end of the input gives it up instead. Otherwise the reply is an error, and none
 /// of its commands is obeyed. If memory runs out or the reader fails, the output up to then is written.
 #[tactic(auto, using(crate::proofs::ShellLemmas::stops_first))]

@@ -1,42 +1,30 @@
 //! The reply to a session that walks its table by a specification, or goes on with a walk that it began.
-ghost use Rattle.std.specs.Prelude.{◌≡◌, ◌≢◌, ◌<◌, IsTrue, IfOk, IfErr, IfSome, Option, None, List, is_some, get_or, set};
+ghost use Rattle.std.specs.Prelude.{◌≡◌, ◌≢◌, ◌<◌, IsTrue, IfOk, IfErr, IfSome};
 ghost use Rattle.mcode.specs.Answer.{answer_of};
 ghost use Rattle.mspec_syntax.specs.Faults.{IsRefusal};
 ghost use Rattle.tables.specs.declared.options.Options.{Options};
 ghost use Rattle.walks.specs.Query.{plan_of};
 ghost use Rattle.tool_script.specs.Command.Selection.{Select, SelectLimit, SelectMore, SelectCount, SelectDelete};
 ghost use Rattle.tool_script.specs.Commands.{selection_of};
-ghost use Rattle.tool_script.specs.Continuations.{AreLetGo, IsKept, own_at, own_by, spent_at, spent_by};
+ghost use Rattle.tool_script.specs.declared.continuations.Continuations.{Continuations};
 ghost use Rattle.tool_script.specs.Replies.{reply_term};
 ghost use Rattle.tool_script.specs.State.{IsDone, IsSelected};
 ghost use Rattle.tool_script.specs.Verdict.{IsMeant};
 ghost use Rattle.tool_script.specs.Walks.{begun, fault_term, limit_in, piece_step};
 
 use crate::command::Selection;
+use crate::continuations::Continuations;
 use crate::reply::CommandReply;
 use mspec_reader::read_spec;
 use mspec_syntax::SpecFault;
 use std::alloc::{AllocError, Allocator};
-use std::mem;
 use tables::Turns;
 use term_core::Term;
 use tool_io::{BAD_LIMIT, STRANGER_CONTINUATION};
 use walks::{
-    Continuation, Query, Step, select, select_count, select_delete, select_first, select_next,
-    steps_are_pieces, whole_walks_count, whole_walks_remove, whole_walks_select,
+    Query, select, select_count, select_delete, select_first, select_next, steps_are_pieces,
+    whole_walks_count, whole_walks_remove, whole_walks_select,
 };
-
-/// The walks that can go on, by the numbers of their continuations; `None` for one that is spent.
-pub(crate) type Walks<A> = Vec<Option<Continuation<A>>, A>;
-
-/// Drops all walks. Their numbers are not used again.
-pub(crate) fn let_go<A: Allocator>(walks: &mut [Option<Continuation<A>>])
-    ensures { AreLetGo walks.old walks.new }
-{
-    for place in 0..walks.len() {
-        walks[place] = None;
-    }
-}
 
 /// Compiles a term to the query that it means as a specification, for a table with this `keypos`. Fails with the fault
 /// of the term, or with `Memory`.
@@ -73,7 +61,7 @@ fn select_all<A: Allocator + Copy, T: Turns<A>>(
     requires ready { T.is_ready turns.old }
     requires alone { IsTrue (T.home turns.old).alone }
     ensures same { T.home turns.new ≡ T.home turns.old }
-    ensures answered { IfOk result (λ reply. (walks : List (Option (Continuation A)))
+    ensures answered { IfOk result (λ reply. (walks : Continuations A)
         → IsSelected (T.home turns.old).options (T.home turns.old).number (T.sees turns.old)
         (T.sees turns.new) walks walks (Select term.now) (reply_term reply)) }
 {
@@ -93,7 +81,7 @@ fn count_all<A: Allocator + Copy, T: Turns<A>>(
     requires ready { T.is_ready turns.old }
     requires alone { IsTrue (T.home turns.old).alone }
     ensures same { T.home turns.new ≡ T.home turns.old }
-    ensures answered { IfOk result (λ reply. (walks : List (Option (Continuation A)))
+    ensures answered { IfOk result (λ reply. (walks : Continuations A)
         → IsSelected (T.home turns.old).options (T.home turns.old).number (T.sees turns.old)
         (T.sees turns.new) walks walks (SelectCount term.now) (reply_term reply)) }
 {
@@ -113,7 +101,7 @@ fn delete_all<A: Allocator + Copy, T: Turns<A>>(
     requires ready { T.is_ready turns.old }
     requires alone { IsTrue (T.home turns.old).alone }
     ensures same { T.home turns.new ≡ T.home turns.old }
-    ensures answered { IfOk result (λ reply. (walks : List (Option (Continuation A)))
+    ensures answered { IfOk result (λ reply. (walks : Continuations A)
         → IsSelected (T.home turns.old).options (T.home turns.old).number (T.sees turns.old)
         (T.sees turns.new) walks walks (SelectDelete term.now) (reply_term reply)) }
 {
@@ -128,31 +116,11 @@ fn delete_all<A: Allocator + Copy, T: Turns<A>>(
     }
 }
 
-/// Replies to a step of a walk: a piece with the number of a new continuation, by which the walk goes on, or the end.
-fn keep<A: Allocator + Copy>(
-    walks: &mut Walks<A>,
-    step: Step<A>,
-) -> Result<CommandReply<A>, AllocError>
-    ensures { IfOk result (λ reply.
-        IsKept step walks.old.items walks.new.items (reply_term reply)) }
-{
-    match step {
-        Step::Piece(answers, walk) => {
-            let number = walks.as_slice().len() as u64;
-            match walks.push(Some(walk)) {
-                Ok(()) => Ok(CommandReply::Piece(answers, number)),
-                Err(_) => Err(AllocError),
-            }
-        }
-        Step::End(_) => Ok(CommandReply::Key(None)),
-    }
-}
-
 /// Begins a walk in pieces, and replies with its first piece.
 fn begin<A: Allocator + Copy, T: Turns<A>>(
     alloc: A,
     turns: &mut T,
-    walks: &mut Walks<A>,
+    walks: &mut Continuations<A>,
     query: Query<A>,
     limit: u64,
 ) -> Result<CommandReply<A>, AllocError>
@@ -161,13 +129,13 @@ fn begin<A: Allocator + Copy, T: Turns<A>>(
     requires some { 0 < limit }
     ensures same { T.home turns.new ≡ T.home turns.old }
     ensures answered { IfOk result (λ reply. IsDone (T.home turns.old).options (T.sees turns.old)
-        (T.sees turns.new) walks.old.items walks.new.items
+        (T.sees turns.new) walks.old walks.new
         (λ w. piece_step w (begun w.table.options (T.home turns.old).number limit
         (answer_of query.code) (plan_of query (T.home turns.old).options))) (reply_term reply)) }
 {
     steps_are_pieces::<A>();
     match select_first(alloc, turns, query, limit) {
-        Ok(step) => keep(walks, step),
+        Ok(step) => walks.keep(step),
         Err(_) => Err(AllocError),
     }
 }
@@ -188,7 +156,7 @@ fn limit_in(limit: i64) -> Option<u64>
 fn select_some<A: Allocator + Copy, T: Turns<A>>(
     alloc: A,
     turns: &mut T,
-    walks: &mut Walks<A>,
+    walks: &mut Continuations<A>,
     term: &Term<A>,
     limit: i64,
 ) -> Result<CommandReply<A>, AllocError>
@@ -197,7 +165,7 @@ fn select_some<A: Allocator + Copy, T: Turns<A>>(
     ensures same { T.home turns.new ≡ T.home turns.old }
     ensures answered { IfOk result (λ reply. IsSelected (T.home turns.old).options
         (T.home turns.old).number (T.sees turns.old) (T.sees turns.new)
-        walks.old.items walks.new.items (SelectLimit term.now limit) (reply_term reply)) }
+        walks.old walks.new (SelectLimit term.now limit) (reply_term reply)) }
 {
     let Some(limit) = limit_in(limit) else {
         return Ok(CommandReply::Error(BAD_LIMIT));
@@ -208,71 +176,12 @@ fn select_some<A: Allocator + Copy, T: Turns<A>>(
     }
 }
 
-/// Returns whether this place has a continuation of this table and session.
-fn is_own<A: Allocator>(place: &Option<Continuation<A>>, table: u64, session: u8) -> bool
-    ensures { result ≡ is_some (own_by table session place.now) }
-{
-    match place {
-        Some(walk) => walk.table == table && walk.session == session,
-        None => false,
-    }
-}
-
-/// Takes the continuation out of its place and returns it, if it belongs to this table and session.
-fn take_own<A: Allocator>(
-    place: &mut Option<Continuation<A>>,
-    table: u64,
-    session: u8,
-) -> Option<Continuation<A>>
-    ensures found { result ≡ own_by table session place.old }
-    ensures spent { place.new ≡ spent_by table session place.old }
-{
-    if is_own(place, table, session) {
-        return mem::replace(place, None);
-    }
-    None
-}
-
-/// Takes the continuation out of the place with this index and returns it, if it belongs to this table and session.
-/// Returns `None` also if there is no such place.
-fn take_at<A: Allocator>(
-    walks: &mut Walks<A>,
-    place: usize,
-    table: u64,
-    session: u8,
-) -> Option<Continuation<A>>
-    ensures found { result ≡ own_by table session (get_or walks.old.items place None) }
-    ensures spent { walks.new.items
-        ≡ set walks.old.items place (spent_by table session (get_or walks.old.items place None)) }
-{
-    match walks.get_mut(place) {
-        Some(place) => take_own(place, table, session),
-        None => None,
-    }
-}
-
-/// Takes the continuation of this number out of its place and returns it, if it belongs to this table and session.
-fn take_walk<A: Allocator>(
-    walks: &mut Walks<A>,
-    number: i64,
-    table: u64,
-    session: u8,
-) -> Option<Continuation<A>>
-    ensures found { result ≡ own_at walks.old.items table session number }
-    ensures spent { walks.new.items ≡ spent_at walks.old.items table session number }
-{
-    if number < 0 {
-        return None;
-    }
-    take_at(walks, number as usize, table, session)
-}
-
 /// Goes on with the walk of a continuation, which is thereby spent. Replies with error 62 if there is no such
 /// continuation of this session and table.
 fn go_on<A: Allocator + Copy, T: Turns<A>>(
     alloc: A,
     turns: &mut T,
-    walks: &mut Walks<A>,
+    walks: &mut Continuations<A>,
     number: i64,
 ) -> Result<CommandReply<A>, AllocError>
     requires ready { T.is_ready turns.old }
@@ -280,14 +189,14 @@ fn go_on<A: Allocator + Copy, T: Turns<A>>(
     ensures same { T.home turns.new ≡ T.home turns.old }
     ensures answered { IfOk result (λ reply. IsSelected (T.home turns.old).options
         (T.home turns.old).number (T.sees turns.old) (T.sees turns.new)
-        walks.old.items walks.new.items (SelectMore number) (reply_term reply)) }
+        walks.old walks.new (SelectMore number) (reply_term reply)) }
 {
     steps_are_pieces::<A>();
-    let Some(walk) = take_walk(walks, number, turns.options().name, turns.number()) else {
+    let Some(walk) = walks.take(number, turns.options().name, turns.number()) else {
         return Ok(CommandReply::Error(STRANGER_CONTINUATION));
     };
     match select_next(alloc, turns, walk) {
-        Ok(step) => keep(walks, step),
+        Ok(step) => walks.keep(step),
         Err(_) => Err(AllocError),
     }
 }
@@ -296,7 +205,7 @@ fn go_on<A: Allocator + Copy, T: Turns<A>>(
 pub(crate) fn walk<A: Allocator + Copy, T: Turns<A>>(
     alloc: A,
     turns: &mut T,
-    walks: &mut Walks<A>,
+    walks: &mut Continuations<A>,
     selection: Selection<'_, A>,
 ) -> Result<CommandReply<A>, AllocError>
     requires ready { T.is_ready turns.old }
@@ -304,7 +213,7 @@ pub(crate) fn walk<A: Allocator + Copy, T: Turns<A>>(
     ensures same { T.home turns.new ≡ T.home turns.old }
     ensures answered { IfOk result (λ reply. IsSelected (T.home turns.old).options
         (T.home turns.old).number (T.sees turns.old) (T.sees turns.new)
-        walks.old.items walks.new.items (selection_of selection.entry) (reply_term reply)) }
+        walks.old walks.new (selection_of selection.entry) (reply_term reply)) }
 {
     match selection {
         Selection::Select(term) => select_all(alloc, turns, term),

@@ -1,12 +1,12 @@
 use Rattle.tool_cli.specs.declared.words.Request.TheVariants as request
-use Rattle.tool_cli.proofs.EndLemmas.{has_outcome, has_replies, has_answers, has_prompted, has_scanned}
+use Rattle.tool_cli.proofs.EndLemmas.{has_outcome, has_reported, has_tested, has_replies, has_answers, has_prompted, has_scanned}
 use Rattle.tool_cli.proofs.program.command_outcome.Goals as goal
 
 pub returns-in-Run : goal.returns-in-Run
-returns-in-Run g c = rw c.in-Run.is (has_outcome (request.Run c.in-Run.form) _ _ _ c.tool_run.result tt c.tool_run.ensures.ok c.tool_run.ensures.refused)
+returns-in-Run g c = rw c.in-Run.is (has_reported c.in-Run.form _ _ _ c.tool_run.result c.tool_run.ensures.ok c.tool_run.ensures.refused)
 
 pub returns-in-Test : goal.returns-in-Test
-returns-in-Test g c = rw c.in-Test.is (has_outcome (request.Test c.in-Test.form) _ _ _ c.tool_test.result tt c.tool_test.ensures.ok c.tool_test.ensures.refused)
+returns-in-Test g c = rw c.in-Test.is (has_tested c.in-Test.form _ _ _ c.tool_test.result c.tool_test.ensures.ok c.tool_test.ensures.refused)
 
 pub returns-in-Compile : goal.returns-in-Compile
 returns-in-Compile g c = rw c.in-Compile.is (has_outcome request.Compile _ _ _ c.tool_compile.result tt c.tool_compile.ensures.ok c.tool_compile.ensures.refused)

@@ -2,7 +2,7 @@ use Rattle.std.proofs.Common.{rules}
 use Rattle.std.specs.Str.{chars}
 use Rattle.std.proofs.lemmas.Result.{err_from_is_err_and}
 use Rattle.term_text.proofs.Nexts.{sentence_shorter}
-use Rattle.tool_query.proofs.AnswerLemmas.{answered_none, answered_more, answered_all, answered_front}
+use Rattle.tool_query.proofs.AnswerLemmas.{answered_none, answered_more, answered_all, answered_cut, answered_front}
 use Rattle.tool_query.proofs.answers.run_lines.Goals as goal
 
 pub loop-scratch-init : goal.loop-scratch-init
@@ -13,7 +13,7 @@ loop-scratch-smaller g c = sentence_shorter (rw c.in-Some.is at c.in_ok-object.e
 
 pub loop-scratch-preserved : goal.loop-scratch-preserved
 loop-scratch-preserved g c =
-    (search rules, answered_more _ _ _ _ _ _ _ _ c.loop-scratch.invariant.1 (rw c.in-Some.is at c.in_ok-object.ensures.ok) c.in_ok-put_run.ensures)
+    (search rules, answered_more _ _ _ _ _ _ _ _ c.loop-scratch.invariant.1 (rw c.in-Some.is at c.in_ok-object.ensures.ok) c.in-Ok.ensures.ok)
 
 pub returns-in_err-object-clause-refused : goal.returns-in_err-object-clause-refused
 returns-in_err-object-clause-refused g c =
@@ -22,3 +22,6 @@ returns-in_err-object-clause-refused g c =
 
 pub returns-in_default-clause-ok : goal.returns-in_default-clause-ok
 returns-in_default-clause-ok g c = answered_all _ _ _ _ _ c.loop-scratch.invariant.1 (rw c.in_default.is at c.in_ok-object.ensures.ok)
+
+pub returns-in-Err-clause-ok : goal.returns-in-Err-clause-ok
+returns-in-Err-clause-ok g c = rw c.in-Err.ensures.err (answered_cut _ _ _ _ _ _ _ c.loop-scratch.invariant.1 (rw c.in-Some.is at c.in_ok-object.ensures.ok))

@@ -12,7 +12,7 @@ returns-in-Ok-clause-ok g c =
 pub returns-in-Ok-clause-stopped : goal.returns-in-Ok-clause-stopped
 returns-in-Ok-clause-stopped g c =
     let spells = subst (Spells c.args.text.now) (sym c.as_slice.ensures.value) c.in-Ok.ensures.ok in
-    IfErr-weaker c.put_replies.result _ _ (λ f h. text_stops c.args.script.now c.args.text.now c.as_slice.result.now _ _ c.args.lines.now.items c.put_replies.new.lines.items f spells h) c.put_replies.ensures.stopped
+    IfErr-weaker c.put_replies.result _ _ (λ f h. text_stops c.args.script.now c.put_replies.new.script c.args.text.now c.as_slice.result.now _ _ c.args.lines.now.items c.put_replies.new.lines.items f spells h) c.put_replies.ensures.stopped
 
 pub returns-in-Err-clause-ok : goal.returns-in-Err-clause-ok
 returns-in-Err-clause-ok g c =

@@ -14,8 +14,8 @@ returns-in-Ok-put_all-clause-ok g c = λ st has.
 pub returns-clause-halted : goal.returns-clause-halted
 returns-clause-halted g c =
     let spells = subst (Spells c.args.text.now) (sym c.as_slice.ensures.value) c.in-Ok.ensures.ok in
-    let put = subst (λ l. ArePutFirst c.args.self.now.script c.as_slice.result.now l c.put_all.new.lines.items) c.clear.ensures.items c.in-Err-put_all.ensures.err in
-    (c.new.ensures.state, first_replies c.args.self.now.script c.args.text.now c.as_slice.result.now c.put_all.new.lines.items spells put)
+    let put = subst (λ l. ArePutFirst c.args.self.now.script c.put_all.new.script c.as_slice.result.now l c.put_all.new.lines.items) c.clear.ensures.items c.in-Err-put_all.ensures.err in
+    (c.new.ensures.state, first_replies c.args.self.now.script c.put_all.new.script c.args.text.now c.as_slice.result.now c.put_all.new.lines.items spells put)
 
 pub returns-in-Err-clause-halted : goal.returns-in-Err-clause-halted
 returns-in-Err-clause-halted g c =

@@ -28,10 +28,10 @@ returns-clause-answered g c =
     IfOk-weaker c.walk.result _ _ (λ reply said count state walks named before held.
     let is : session_number state c.args.number ≡ Some c.in-Some.number = ap (session_number state) (sym number) ∙ sym (c.session.ensures.found state before) ∙ c.in-Some.is in
     let whole : Walked = record { table = state.table; walks = walks } in
-    let at = subst (λ (t : LocalTable g.row.P.Denot g.row.A.Denot g.P.Part). AreAt t.options (AreAfter g.P.Part.is_after t.parts.items) count c.args.walks.now.items whole) (sym c.at-session.ensures.table) (record { table = before.table; named = named; walks = held }) in
-    let taken = subst (λ (n : ℕ). Takes (selecting whole n (selection_of c.args.selection)) (reply_term reply) (AreAt there.options (AreAfter g.P.Part.is_after now.parts.items) count c.walk.new.walks.items)) c.at-session.ensures.number (said count whole at) in
-    rw is (takes_weaker (selecting whole c.in-Some.number (selection_of c.args.selection)) (reply_term reply) _ _ (λ (w : Walked) (at : AreAt there.options (AreAfter g.P.Part.is_after now.parts.items) count c.walk.new.walks.items w). (
+    let at = subst (λ (t : LocalTable g.row.P.Denot g.row.A.Denot g.P.Part). AreAt t.options (AreAfter g.P.Part.is_after t.parts.items) count c.args.walks.now whole) (sym c.at-session.ensures.table) (record { table = before.table; named = named; walks = held }) in
+    let taken = subst (λ (n : ℕ). Takes (selecting whole n (selection_of c.args.selection)) (reply_term reply) (AreAt there.options (AreAfter g.P.Part.is_after now.parts.items) count c.walk.new.walks)) c.at-session.ensures.number (said count whole at) in
+    rw is (takes_weaker (selecting whole c.in-Some.number (selection_of c.args.selection)) (reply_term reply) _ _ (λ (w : Walked) (at : AreAt there.options (AreAfter g.P.Part.is_after now.parts.items) count c.walk.new.walks w). (
       record { table = subst (λ (o : Options). IsAt o (AreAfter g.P.Part.is_after now.parts.items) w.table) same at.table; left = λ k inside. before.left k (subst (λ (o : Options). k < o.sessions) (sym same ∙ old) inside) },
-      subst (λ (o : Options). AreHeld (Some o) count c.walk.new.walks.items w.walks) same at.walks,
+      subst (λ (o : Options). AreHeld (Some o) count c.walk.new.walks w.walks) same at.walks,
     )) taken))
     c.walk.ensures.answered

@@ -1,4 +1,4 @@
-use Rattle.std.proofs.Common.{◌≡◌, ◌∙◌, sym, refl, w64, to_z, of_z, rules}
+use Rattle.std.proofs.Common.{◌≡◌, ◌∙◌, ◌+◌, sym, refl, w64, to_z, of_z, rules}
 use Rattle.std.specs.Prelude.{FitsSigned}
 use Rattle.std.proofs.lemmas.Int.{to_z-of_z}
 use Rattle.tool_script.specs.Script.{number_within, options_with}
@@ -24,4 +24,5 @@ returns-clause-answered g c = λ st has.
     let sessions = sym (to_z-of_z w64 c.args.sessions sessions_fit) in
     let count = c.args.self.now.count in
     let same : options_with count c.args.kind (number_within 1 65535 c.args.keypos) (number_within 1 64 c.args.parts) (number_within 1 16 c.args.sessions) ≡ c.options_in.result = (λ i. options_with count c.args.kind (number_within 1 65535 (keypos i)) (number_within 1 64 (parts i)) (number_within 1 16 (sessions i))) ∙ sym c.options_in.ensures in
-    opened_step c.args.self.now _ st c.args.kind c.args.keypos c.args.parts c.args.sessions c.in-Some.options c.in_ok-table.table has (sym (c.is_open.ensures st.current has.current) ∙ c.if-is_open.false) (same ∙ c.in-Some.is) c.in_ok-table.ensures.table c.in_ok-table.ensures.options c.replace.ensures.after refl refl
+    let more : c.in-Some-checked_add.count ≡ count + 1 = search rules in
+    opened_step c.args.self.now _ st c.args.kind c.args.keypos c.args.parts c.args.sessions c.in-Some.options c.in_ok-table.table has (sym (c.is_open.ensures st.current has.current) ∙ c.if-is_open.false) (same ∙ c.in-Some.is) c.in_ok-table.ensures.table c.in_ok-table.ensures.options c.replace.ensures.after more refl

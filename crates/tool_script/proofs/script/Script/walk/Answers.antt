@@ -19,7 +19,7 @@ returns-in-Unordered-clause-answered g c =
     IfOk-weaker c.admit_walk.result _ _ (λ reply both st has.
     let there = set_there g.O.Part c.in-Unordered.table st.current (subst (λ x. HasTable x st.current) c.in-Unordered.is has.current) in
     walked_step old _ st there.0 _ _ (IsOpen c.admit_walk.new.self) c.args.number (selection_of c.args.selection) (reply_term reply) has there.1 (ap open_options c.in-Unordered.is) refl both.0 refl (λ u is. is)
-    (λ named held. subst (λ z. IsSelectionAnswered c.in-Unordered.table c.admit_walk.new.self old.walks.items c.admit_walk.new.walks.items z (selection_of c.args.selection) (reply_term reply)) number both.1 old.count there.0 st.walks named there.2 held))
+    (λ named held. subst (λ z. IsSelectionAnswered c.in-Unordered.table c.admit_walk.new.self old.walks c.admit_walk.new.walks z (selection_of c.args.selection) (reply_term reply)) number both.1 old.count there.0 st.walks named there.2 held))
     (ok_both c.admit_walk.result _ _ c.admit_walk.ensures.options c.admit_walk.ensures.answered)
 
 pub returns-in-Ordered-clause-answered : goal.returns-in-Ordered-clause-answered
@@ -30,5 +30,5 @@ returns-in-Ordered-clause-answered g c =
     IfOk-weaker c.admit_walk-in-Ordered.result _ _ (λ reply both st has.
     let there = ordered_there g.S.Part c.in-Ordered.table st.current (subst (λ x. HasTable x st.current) c.in-Ordered.is has.current) in
     walked_step old _ st there.0 _ _ (IsOpen c.admit_walk-in-Ordered.new.self) c.args.number (selection_of c.args.selection) (reply_term reply) has there.1 (ap open_options c.in-Ordered.is) refl both.0 refl (λ u is. is)
-    (λ named held. subst (λ z. IsSelectionAnswered c.in-Ordered.table c.admit_walk-in-Ordered.new.self old.walks.items c.admit_walk-in-Ordered.new.walks.items z (selection_of c.args.selection) (reply_term reply)) number both.1 old.count there.0 st.walks named there.2 held))
+    (λ named held. subst (λ z. IsSelectionAnswered c.in-Ordered.table c.admit_walk-in-Ordered.new.self old.walks c.admit_walk-in-Ordered.new.walks z (selection_of c.args.selection) (reply_term reply)) number both.1 old.count there.0 st.walks named there.2 held))
     (ok_both c.admit_walk-in-Ordered.result _ _ c.admit_walk-in-Ordered.ensures.options c.admit_walk-in-Ordered.ensures.answered)

@@ -1,0 +1,15 @@
+use Rattle.std.proofs.lemmas.Result.{on_ok_weaker, MatchResult-weaker}
+use Rattle.tool_explain.specs.Listing.{instruction_line}
+use Rattle.tool_explain.proofs.PassingLemmas.{memory_stops, put_passes, write_stops}
+use Rattle.tool_explain.proofs.listing.pass_instruction.Goals as goal
+
+pub returns-in-Ok-clause-ok : goal.returns-in-Ok-clause-ok
+returns-in-Ok-clause-ok g c =
+    on_ok_weaker c.write_if_many.result (λ p. put_passes (instruction_line c.args.variables.now c.args.constants.now c.args.pc c.args.instr) c.args.lines.now.items c.put_instruction.new.lines.items c.write_if_many.new.lines.items _ _ c.in-Ok.ensures p) c.write_if_many.ensures.ok
+
+pub returns-in-Ok-clause-stopped : goal.returns-in-Ok-clause-stopped
+returns-in-Ok-clause-stopped g c =
+    MatchResult-weaker c.write_if_many.result c.write_if_many.ensures.failed (λ x p. p) (λ f failed. write_stops (instruction_line c.args.variables.now c.args.constants.now c.args.pc c.args.instr) c.args.lines.now.items _ _ f failed)
+
+pub returns-in-Err-clause-stopped : goal.returns-in-Err-clause-stopped
+returns-in-Err-clause-stopped g c = memory_stops (instruction_line c.args.variables.now c.args.constants.now c.args.pc c.args.instr) c.args.lines.now.items _
