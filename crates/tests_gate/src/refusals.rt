@@ -178,10 +178,26 @@ pub(crate) fn is_fixed<A: Allocator + Copy, T: Turns<A>>(heap: A, turns: &mut T)
 
 /// Returns a trial at a set of two hashed parts.
 const fn at_set(home: Home, act: Act) -> Trial {
+    at_hashed(TableKind::Set, home, act)
+}
+
+/// Returns a trial at two hashed parts.
+const fn at_hashed(kind: TableKind, home: Home, act: Act) -> Trial {
     Trial {
         sort: Sort::Hashed,
-        kind: TableKind::Set,
+        kind,
         parts: 2,
+        home,
+        act,
+    }
+}
+
+/// Returns a trial at an ordered set, which has one part.
+const fn at_ordered(home: Home, act: Act) -> Trial {
+    Trial {
+        sort: Sort::Ordered,
+        kind: TableKind::OrderedSet,
+        parts: 1,
         home,
         act,
     }
@@ -200,6 +216,11 @@ fn each_request_of_an_insert_may_be_refused(rt: HostRuntime) {
 
 #[test]
 fn calls_that_take_no_memory_take_none(rt: HostRuntime) {
-    assert!(rt; is_swept(&rt, rt.alloc(), at_set(Home::Gates, Act::Spare)));
-    assert!(rt; is_swept(&rt, rt.alloc(), at_set(Home::Left, Act::Fix)));
+    for kind in [TableKind::Set, TableKind::Bag, TableKind::DuplicateBag] {
+        assert!(rt; is_swept(&rt, rt.alloc(), at_hashed(kind, Home::Alone, Act::Spare)));
+        assert!(rt; is_swept(&rt, rt.alloc(), at_hashed(kind, Home::Gates, Act::Spare)));
+        assert!(rt; is_swept(&rt, rt.alloc(), at_hashed(kind, Home::Left, Act::Fix)));
+    }
+    assert!(rt; is_swept(&rt, rt.alloc(), at_ordered(Home::Alone, Act::Spare)));
+    assert!(rt; is_swept(&rt, rt.alloc(), at_ordered(Home::Gates, Act::Spare)));
 }

@@ -1,7 +1,7 @@
 //! The texts of faults, which say in words what their error codes and arguments say: of each enum of faults each
-//! variant, in the order of `TermFault`, `TextFault`, `SpecFault`, `BuildFault`, `FileFault`, `CodeFault`, `PartFault`,
-//! `OpenFault`, `WalkFault`, `SelectFault`, `Lost` and `ToolFault`. A text follows its error code, if there is one. The
-//! text for code that is not verified also follows the number of the instruction.
+//! variant, in the order of `TermFault`, `TextFault`, `SpecFault`, `BuildFault`, `FileFault`, `CodeFault`, `BodyFault`,
+//! `PartFault`, `OpenFault`, `WalkFault`, `SelectFault`, `Lost` and `ToolFault`. A text follows its error code, if there
+//! is one. The text for code that is not verified also follows the number of the instruction.
 use code_file::FileFault;
 use gate::Lost;
 use mcode::Fault as BuildFault;
@@ -14,7 +14,7 @@ use std::io::Write;
 use term_core::Fault as TermFault;
 use term_text::TextFault;
 use tool_io::ToolFault;
-use verifier::Fault as CodeFault;
+use verifier::{BodyFault, Fault as CodeFault};
 use walks::WalkFault;
 
 /// A fault that has an error code.
@@ -238,6 +238,22 @@ const OF_CODE: &str = "\
 39 the body may take too many instructions
 ";
 
+/// The texts of the faults of code in the bodies 0 to 11, which have no error codes of their own.
+const OF_BODIES: &str = "\
+body 0: out of memory
+body 1: instruction 0 finds too few operands
+body 2: instruction 1 finds an operand of the wrong kind
+body 3: instruction 2 names a slot that isn't bound
+body 4: instruction 3 jumps out of the code
+body 5: instruction 4 jumps back
+body 6: the frame at or of instruction 5 doesn't hold
+body 7: the code ends after instruction 6, which goes on
+body 8: instruction 7 names a constant that isn't what it needs
+body 9: instruction 65535 leaves a stack that is too deep
+body 10: instruction 8 invokes no later routine, or may not stand in its body
+body 11: the body may take too many instructions
+";
+
 const PARTS: [PartFault; 6] = [
     PartFault::Memory,
     PartFault::TooSmall,
@@ -332,6 +348,25 @@ fn are_told_of_code(alloc: Global) -> bool {
     put_places(&mut lines, &CODE) && lines.as_slice() == OF_CODE.as_bytes()
 }
 
+/// Appends the text of each fault of code in a body, of which the first is the main body; returns `false` if memory runs
+/// out.
+fn put_bodies(lines: &mut Vec<u8>, faults: &[CodeFault]) -> bool {
+    let mut is_whole = true;
+    let mut body: u16 = 0;
+    for fault in faults {
+        let fault = *fault;
+        is_whole = put_text(lines, BodyFault { fault, body }) && is_whole;
+        body = body.saturating_add(1);
+    }
+    is_whole
+}
+
+/// Returns whether the texts of the faults of bodies are right.
+fn are_told_of_bodies(alloc: Global) -> bool {
+    let mut lines = Vec::new(alloc);
+    put_bodies(&mut lines, &CODE) && lines.as_slice() == OF_BODIES.as_bytes()
+}
+
 /// Returns whether the text for a part that can't be returned, which has no error code, is right.
 fn is_told_of_a_lost_part(alloc: Global) -> bool {
     let mut lines = Vec::new(alloc);
@@ -407,6 +442,7 @@ fn each_refusal_is_told(rt: HostRuntime) {
     assert!(rt; are_told_of_building(alloc));
     assert!(rt; are_told_of_files(alloc));
     assert!(rt; are_told_of_code(alloc));
+    assert!(rt; are_told_of_bodies(alloc));
     assert!(rt; are_told_of_parts(alloc));
     assert!(rt; are_told_of_opening(alloc));
     assert!(rt; are_told_of_walks(alloc));

@@ -1,9 +1,10 @@
 //! The answers on lists of objects: each object's at its place, equal to that of a run of its own, for few objects and
 //! for many; and with each allocation failing in turn.
+use crate::members::is_text;
 use crate::watch::Watch;
 use compiler::compile;
 use kit_alloc::{Failing, Plan};
-use kit_rows::term_of;
+use kit_rows::{Outcome, term_of};
 use machine::run;
 use mspec_reader::read_spec;
 use parallel_select::run_list;
@@ -15,6 +16,58 @@ use verifier::Verified;
 
 /// A specification whose answer is each number that is even.
 const EVEN: &[u8] = b"[{{'$1'},[{'==',{'rem','$1',2},0}],['$1']}].";
+
+/// The answers that are expected.
+#[derive(Clone, Copy)]
+enum Wanted {
+    /// Those of `EVEN` on `{1}`, `{2}` and so on.
+    EvenNumbers,
+    /// Those of this list, in which `none` stands for no answer.
+    List(&'static str),
+}
+
+/// A specification, the text of the objects, and the answers on them.
+#[derive(Clone, Copy)]
+struct Work<'t> {
+    specification: &'static [u8],
+    objects: &'t str,
+    wanted: Wanted,
+}
+
+impl Work<'_> {
+    /// Returns the work of `EVEN` on objects `{1}`, `{2}` and so on.
+    const fn even(objects: &str) -> Work<'_> {
+        Work {
+            specification: EVEN,
+            objects,
+            wanted: Wanted::EvenNumbers,
+        }
+    }
+}
+
+/// Few objects: an answer where a comparison holds, on every object, and by the head that walks in pieces are tried with.
+const FEW: [Work<'static>; 4] = [
+    Work {
+        specification: EVEN,
+        objects: "{1}. {2}. {3}.",
+        wanted: Wanted::List("[none,2,none]"),
+    },
+    Work {
+        specification: b"[{{'$1','$2'},[{'>','$1',1}],['$2']}].",
+        objects: "{1,a}. {2,b}.",
+        wanted: Wanted::List("[none,b]"),
+    },
+    Work {
+        specification: b"[{'_',[],[true]}].",
+        objects: "{1}. a.",
+        wanted: Wanted::List("[true,true]"),
+    },
+    Work {
+        specification: b"[{{'$1'},[],['$1']}].",
+        objects: "{1}. {2}. 3. {4}. {5,6}.",
+        wanted: Wanted::List("[1,2,none,4,none]"),
+    },
+];
 
 /// The maximal number of allocations for a list.
 const MOST_REQUESTS: u64 = 1_000;
@@ -35,9 +88,9 @@ fn text_of(alloc: Global, count: usize) -> Option<String> {
     }
 }
 
-/// Returns the code of `EVEN`.
-fn code<A: Allocator + Copy>(heap: A) -> Option<Verified<A>> {
-    let term = term_of(heap, EVEN)?;
+/// Returns the code of a specification.
+fn code<A: Allocator + Copy>(heap: A, specification: &[u8]) -> Option<Verified<A>> {
+    let term = term_of(heap, specification)?;
     let specification = read_spec(heap, &term);
     drop(term);
     let Ok(specification) = specification else {
@@ -72,6 +125,26 @@ fn are_even<A: Allocator>(answers: &[Option<Term<A>>]) -> bool {
     true
 }
 
+/// Returns the answers as a list in which `none` stands for no answer, or `None` if memory runs out.
+fn text_of_answers<A: Allocator>(alloc: Global, answers: &[Option<Term<A>>]) -> Option<Vec<u8>> {
+    let mut out = Outcome::list(alloc);
+    for answer in answers {
+        out = match answer {
+            Some(answer) => out.term(answer),
+            None => out.word("none"),
+        };
+    }
+    out.end()
+}
+
+/// Returns whether these are the answers that are expected.
+fn are_wanted<A: Allocator>(alloc: Global, answers: &[Option<Term<A>>], wanted: Wanted) -> bool {
+    match wanted {
+        Wanted::EvenNumbers => are_even(answers),
+        Wanted::List(text) => is_text(text_of_answers(alloc, answers), text),
+    }
+}
+
 /// Returns whether the answer on an object is that of a run of its own.
 fn is_plain<A: Allocator + Copy>(
     heap: A,
@@ -81,7 +154,7 @@ fn is_plain<A: Allocator + Copy>(
 ) -> bool {
     let ran = run(heap, code, object);
     let is_same = match &ran {
-        Ok((ran, _executed)) => number(ran) == number(answer),
+        Ok((ran, _executed)) => ran == answer,
         Err(_) => false,
     };
     drop(ran);
@@ -107,19 +180,21 @@ fn are_plain<A: Allocator + Copy>(
 /// fail. Returns `None` if memory runs out.
 fn are_right<'h, R: Threads + Sync>(
     rt: &R,
+    alloc: Global,
     heap: &'h Failing<Global>,
     watch: &mut Watch<'_>,
     code: &Verified<&'h Failing<Global>>,
     objects: &[Term<&'h Failing<Global>>],
+    wanted: Wanted,
 ) -> Option<bool> {
     match run_list(rt, heap, code, objects) {
         Ok(answers) => {
             watch.ended(false);
             let all = answers.as_slice();
-            let are_even = all.len() == objects.len() && are_even(all);
+            let are_wanted = all.len() == objects.len() && are_wanted(alloc, all, wanted);
             let is_alike = heap.plan() != Plan::Never || are_plain(heap, code, objects, all);
             drop(answers);
-            Some(are_even && is_alike)
+            Some(are_wanted && is_alike)
         }
         Err(AllocError) => {
             watch.ended(true);
@@ -145,16 +220,18 @@ struct Came {
 /// Returns the result for a list, which is tried again if memory runs out.
 fn came_of<'h, R: Threads + Sync>(
     rt: &R,
+    alloc: Global,
     heap: &'h Failing<Global>,
     code: &Verified<&'h Failing<Global>>,
     objects: &[Term<&'h Failing<Global>>],
+    wanted: Wanted,
 ) -> Came {
     let before = heap.requests();
     let mut watch = Watch::new(heap);
-    let first = are_right(rt, heap, &mut watch, code, objects);
+    let first = are_right(rt, alloc, heap, &mut watch, code, objects, wanted);
     let second = match first {
         Some(_) => first,
-        None => are_right(rt, heap, &mut watch, code, objects),
+        None => are_right(rt, alloc, heap, &mut watch, code, objects, wanted),
     };
     let is_right = match second {
         Some(are_right) => are_right && watch.is_right(),
@@ -168,12 +245,20 @@ fn came_of<'h, R: Threads + Sync>(
     }
 }
 
-/// Returns the result for the objects of a text, or `None` if memory runs out for the code and the objects.
-fn listed<R: Threads + Sync>(rt: &R, heap: &Failing<Global>, text: &str) -> Option<Came> {
-    let code = code(heap)?;
-    let objects = read_terms(heap, text.as_bytes());
+/// Returns the result for a list, or `None` if memory runs out for the code and the objects.
+fn listed<R: Threads + Sync>(
+    rt: &R,
+    alloc: Global,
+    heap: &Failing<Global>,
+    work: Work<'_>,
+) -> Option<Came> {
+    let code = code(heap, work.specification)?;
+    let objects = read_terms(heap, work.objects.as_bytes());
     let came = match &objects {
-        Ok(objects) => Some(came_of(rt, heap, &code, objects.as_slice())),
+        Ok(objects) => {
+            let objects = objects.as_slice();
+            Some(came_of(rt, alloc, heap, &code, objects, work.wanted))
+        }
         Err(_) => None,
     };
     drop(objects);
@@ -181,11 +266,11 @@ fn listed<R: Threads + Sync>(rt: &R, heap: &Failing<Global>, text: &str) -> Opti
     came
 }
 
-/// Returns the result for the objects of a text, with allocations failing according to a plan. Returns `None` if memory
-/// runs out for the code and the objects, or a block is left allocated.
-fn planned<R: Threads + Sync>(rt: &R, alloc: Global, plan: Plan, text: &str) -> Option<Came> {
+/// Returns the result for a list, with allocations failing according to a plan. Returns `None` if memory runs out for
+/// the code and the objects, or a block is left allocated.
+fn planned<R: Threads + Sync>(rt: &R, alloc: Global, plan: Plan, work: Work<'_>) -> Option<Came> {
     let heap = Failing::new(alloc, plan);
-    let came = listed(rt, &heap, text);
+    let came = listed(rt, alloc, &heap, work);
     if heap.blocks() == 0 { came } else { None }
 }
 
@@ -194,7 +279,7 @@ fn is_answered<R: Threads + Sync>(rt: &R, alloc: Global, count: usize) -> bool {
     let Some(text) = text_of(alloc, count) else {
         return false;
     };
-    let came = planned(rt, alloc, Plan::Never, text.as_str());
+    let came = planned(rt, alloc, Plan::Never, Work::even(text.as_str()));
     drop(text);
     match came {
         Some(came) => came.is_right && !came.is_refused && came.count == count,
@@ -202,10 +287,15 @@ fn is_answered<R: Threads + Sync>(rt: &R, alloc: Global, count: usize) -> bool {
     }
 }
 
-/// Returns how many allocations the answers on the objects of a text take, where each fails in turn, alone or together
-/// with all later ones.
-fn refusals<R: Threads + Sync>(rt: &R, alloc: Global, text: &str, onward: bool) -> Option<u64> {
-    let before = planned(rt, alloc, Plan::Never, text)?.before;
+/// Returns how many allocations the answers of a list take, where each fails in turn, alone or together with all later
+/// ones.
+fn refusals<R: Threads + Sync>(
+    rt: &R,
+    alloc: Global,
+    work: Work<'_>,
+    onward: bool,
+) -> Option<u64> {
+    let before = planned(rt, alloc, Plan::Never, work)?.before;
     for request in 1..MOST_REQUESTS {
         let first = before.saturating_add(request);
         let plan = if onward {
@@ -213,7 +303,7 @@ fn refusals<R: Threads + Sync>(rt: &R, alloc: Global, text: &str, onward: bool) 
         } else {
             Plan::Once(first)
         };
-        let came = planned(rt, alloc, plan, text)?;
+        let came = planned(rt, alloc, plan, work)?;
         if !came.is_right {
             return None;
         }
@@ -233,7 +323,7 @@ fn refusals_of<R: Threads + Sync>(
     onward: bool,
 ) -> Option<u64> {
     let text = text_of(alloc, count)?;
-    let requests = refusals(rt, alloc, text.as_str(), onward);
+    let requests = refusals(rt, alloc, Work::even(text.as_str()), onward);
     drop(text);
     requests
 }
@@ -249,7 +339,9 @@ fn answers_each_object_at_its_place(rt: HostRuntime) {
 fn is_refused_where_memory_is(rt: HostRuntime) {
     for onward in [false, true] {
         // Few objects are answered in one run.
-        assert!(rt; refusals_of(&rt, rt.alloc(), 3, onward) == Some(1));
+        for work in FEW {
+            assert!(rt; refusals(&rt, rt.alloc(), work, onward) == Some(1));
+        }
         // Many objects are answered in several runs, whose answers are put together.
         let many = refusals_of(&rt, rt.alloc(), 5_000, onward);
         assert!(rt; many.is_some_and(|requests| requests > 3));

@@ -24,15 +24,29 @@ use term_core::Term;
 use term_text::read_terms;
 use walks::Query;
 
-/// A set.
+/// A set, and what is asked of it.
 #[derive(Clone, Copy)]
 struct Set {
     parts: u8,
     objects: &'static [u8],
     /// The number of objects.
     count: u64,
-    /// The answers in table order: an integer is in the part of its remainder, and there in the class of its quotient.
+    /// The specification of the selection.
+    selection: &'static str,
+    /// Its answers in table order: an integer is in the part of its remainder, and there in the class of its quotient.
     answers: &'static str,
+    /// The specification by which all objects are counted and deleted.
+    all: &'static str,
+}
+
+impl Set {
+    /// Returns the specification of a call.
+    const fn specification_of(self, call: Call) -> &'static str {
+        match call {
+            Call::Select => self.selection,
+            Call::Count | Call::Delete => self.all,
+        }
+    }
 }
 
 /// Ten objects of eight parts.
@@ -40,14 +54,29 @@ const TEN: Set = Set {
     parts: 8,
     objects: b"{1}. {2}. {3}. {4}. {5}. {6}. {7}. {8}. {9}. {10}.",
     count: 10,
+    selection: KEY,
     answers: "[{8},{1},{9},{2},{10},{3},{4},{5},{6},{7}]",
+    all: ALL,
 };
-/// Four objects of two parts.
+/// Four objects.
+const OBJECTS: &[u8] = b"{1}. {2}. {3}. {4}.";
+/// They are in two parts.
 const FOUR: Set = Set {
     parts: 2,
-    objects: b"{1}. {2}. {3}. {4}.",
+    objects: OBJECTS,
     count: 4,
+    selection: KEY,
     answers: "[{2},{4},{1},{3}]",
+    all: ALL,
+};
+/// The same objects, asked without a condition and without a term that is made.
+const PLAIN: Set = Set {
+    parts: 2,
+    objects: OBJECTS,
+    count: 4,
+    selection: "[{{'$1'},[],['$1']}].",
+    answers: "[2,4,1,3]",
+    all: "[{{'$1'},[],[true]}].",
 };
 /// The answer on each object is its key, in a tuple that is made.
 const KEY: &str = "[{{'$1'},[],[{{'$1'}}]}].";
@@ -221,15 +250,6 @@ fn is_right_again<R: Threads + Wait + Sync, A: Allocator + Copy + Send + Sync, T
     Some(watch.is_right() && second.is_whole)
 }
 
-/// Returns the specification of a call.
-fn specification_of(call: Call) -> &'static str {
-    match call {
-        Call::Select => KEY,
-        Call::Count => ALL,
-        Call::Delete => ALL,
-    }
-}
-
 /// Makes the query, and returns whether a call is right at these objects, which were inserted before. Returns `None` if
 /// memory runs out for the query.
 fn is_right_by<R: Threads + Wait + Sync, A: Allocator + Copy + Send + Sync, T: Turns<A> + Send>(
@@ -245,7 +265,7 @@ fn is_right_by<R: Threads + Wait + Sync, A: Allocator + Copy + Send + Sync, T: T
     requires ready { All T.is_ready members.old }
     requires table { AreOfOneTable (map T.home members.old) }
 {
-    let query = query_of(heap, specification_of(call))?;
+    let query = query_of(heap, set.specification_of(call))?;
     let mut watch = Watch::new(counts);
     let is_right = is_right_again(
         rt, alloc, heap, &mut watch, members, &query, objects, call, set,
@@ -359,8 +379,9 @@ fn holds<R: Threads + Wait + Sync>(
 fn each_request_of_a_selection_may_be_refused(rt: HostRuntime) {
     for members in [1, 2, 4, 16] {
         for call in [Call::Select, Call::Count, Call::Delete] {
-            assert!(rt; holds(&rt, rt.alloc(), members, call, TEN), "{members}");
-            assert!(rt; holds(&rt, rt.alloc(), members, call, FOUR), "{members}");
+            for set in [TEN, FOUR, PLAIN] {
+                assert!(rt; holds(&rt, rt.alloc(), members, call, set), "{members}");
+            }
         }
     }
 }
