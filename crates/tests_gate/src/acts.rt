@@ -41,6 +41,9 @@ pub(crate) const fn only(key: u32) -> Keys {
 /// To which the error code is added for the result of a rejected request for a key.
 pub(crate) const REFUSED: u32 = 1_000;
 
+/// The result of a request for the key that follows one without a row.
+pub(crate) const NO_ROW: usize = REFUSED as usize + 53;
+
 /// An act of a session. The result of one that returns nothing is 0.
 #[derive(Clone, Copy)]
 pub(crate) enum Act {

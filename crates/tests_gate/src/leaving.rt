@@ -1,6 +1,6 @@
 //! Fixes at a table whose parts have gates: a dead row stays as long as some session fixes the table. It is removed
 //! with the last fix, also if its session leaves without releasing it.
-use crate::acts::{Act, Keys, REFUSED, acted, only};
+use crate::acts::{Act, Keys, NO_ROW, acted, only};
 use crate::pairs::opened;
 use part_core::{Part, TableKind};
 use part_hash::HashPart;
@@ -19,9 +19,6 @@ const fn options_of(parts: u8) -> Options {
         sessions: 2,
     }
 }
-
-/// The result of a request for the key that follows one without a row.
-const NO_ROW: usize = REFUSED as usize + 53;
 
 /// The keys of the set. Of several parts each is in one of its own, and neither in the first.
 const KEYS: Keys = Keys {

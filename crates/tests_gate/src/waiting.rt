@@ -3,7 +3,7 @@ ghost use Rattle.std.specs.Prelude.{◌≡◌, All, []};
 ghost use Rattle.tables.specs.Options.{settings_of};
 ghost use Rattle.tables.specs.Sessions.{IsOpened};
 
-use crate::acts::{Act, acted};
+use crate::acts::{Act, NO_ROW, acted};
 use crate::sleeping::{SleepWatch, SystemWatch};
 use crate::watching::{Watching, flag, next_met, opened_over, part_that_watches};
 use kit_members::is_raised;
@@ -74,8 +74,8 @@ fn asked_and_slept<
     session
 }
 
-/// A session requests a key; while it has the part out, another session makes a request and falls asleep. Returns the
-/// latter.
+/// A session acts, with this result; while it has the part out, another session makes a request and falls asleep.
+/// Returns the latter.
 fn asked_while_out<
     R: Threads + Wait + Abort + Sync,
     P: Part<Global> + Drop + Send,
@@ -89,6 +89,8 @@ fn asked_while_out<
     is_out: &Arc<AtomicBool>,
     is_asleep: &Arc<AtomicBool>,
     watch: &W,
+    act: Act,
+    result: usize,
 ) -> Session<P>
     requires first { IsOpened table.now.options table.now.gates.items first.number first.passes.items }
     requires second { IsOpened table.now.options table.now.gates.items second.number second.passes.items }
@@ -99,7 +101,7 @@ fn asked_while_out<
         ||
             requires { IsOpened table.now.options table.now.gates.items first.number first.passes.items }
         {
-            drop(acted(rt, alloc, table, first, Act::Member(1), 0));
+            drop(acted(rt, alloc, table, first, act, result));
         },
         || -> Session<P>
             requires { IsOpened table.now.options table.now.gates.items second.number second.passes.items }
@@ -109,17 +111,22 @@ fn asked_while_out<
     second
 }
 
-/// Returns whether a session got a part for which it slept, and the other session saw that it slept.
+/// Returns whether a session got a part for which it slept, and the other session, which acted with this result, saw that
+/// it slept.
 fn is_woken<R: Threads + Wait + Abort + Sync, P: Part<Global> + Drop + Send, W: SleepWatch + Sync>(
     rt: &R,
     alloc: Global,
     watch: &W,
+    act: Act,
+    result: usize,
 ) -> Option<bool> {
     let is_out = flag(rt, alloc);
     let is_asleep = flag(rt, alloc);
     let parts = kept_part::<R, P>(rt, alloc, OPTIONS, &is_out, &is_asleep);
     let (table, first, second) = opened_over(rt, alloc, OPTIONS, parts);
-    let second = asked_while_out(rt, alloc, &table, first, second, &is_out, &is_asleep, watch);
+    let second = asked_while_out(
+        rt, alloc, &table, first, second, &is_out, &is_asleep, watch, act, result,
+    );
     let mut closed = table.close(second);
     let has_met = next_met(rt, &mut closed);
     drop(closed);
@@ -131,5 +138,10 @@ fn is_woken<R: Threads + Wait + Abort + Sync, P: Part<Global> + Drop + Send, W: 
 #[test]
 fn a_session_that_waits_is_woken(rt: HostRuntime) {
     let watch = SystemWatch::new(&rt);
-    assert!(rt; is_woken::<_, PlainPart<Global>, _>(&rt, rt.alloc(), &watch) == Some(true));
+    let alloc = rt.alloc();
+    let by_a_reply = is_woken::<_, PlainPart<Global>, _>(&rt, alloc, &watch, Act::Member(1), 0);
+    assert!(rt; by_a_reply == Some(true));
+    // The operation of the session that has the part fails, since the key has no row.
+    let by_an_error = is_woken::<_, PlainPart<Global>, _>(&rt, alloc, &watch, Act::Next(1), NO_ROW);
+    assert!(rt; by_an_error == Some(true));
 }
