@@ -74,7 +74,7 @@ fn asked_and_slept<
     session
 }
 
-/// A session acts, with this result; while it has the part out, another session makes a request and falls asleep.
+/// A session acts, with the wanted result; while it has the part out, another session makes a request and falls asleep.
 /// Returns the latter.
 fn asked_while_out<
     R: Threads + Wait + Abort + Sync,
@@ -90,7 +90,7 @@ fn asked_while_out<
     is_asleep: &Arc<AtomicBool>,
     watch: &W,
     act: Act,
-    result: usize,
+    wanted: usize,
 ) -> Session<P>
     requires first { IsOpened table.now.options table.now.gates.items first.number first.passes.items }
     requires second { IsOpened table.now.options table.now.gates.items second.number second.passes.items }
@@ -101,7 +101,7 @@ fn asked_while_out<
         ||
             requires { IsOpened table.now.options table.now.gates.items first.number first.passes.items }
         {
-            drop(acted(rt, alloc, table, first, act, result));
+            drop(acted(rt, alloc, table, first, act, wanted));
         },
         || -> Session<P>
             requires { IsOpened table.now.options table.now.gates.items second.number second.passes.items }
@@ -111,21 +111,21 @@ fn asked_while_out<
     second
 }
 
-/// Returns whether a session got a part for which it slept, and the other session, which acted with this result, saw that
+/// Returns whether a session got a part for which it slept, and the other session, which acted with the wanted result, saw that
 /// it slept.
 fn is_woken<R: Threads + Wait + Abort + Sync, P: Part<Global> + Drop + Send, W: SleepWatch + Sync>(
     rt: &R,
     alloc: Global,
     watch: &W,
     act: Act,
-    result: usize,
+    wanted: usize,
 ) -> Option<bool> {
     let is_out = flag(rt, alloc);
     let is_asleep = flag(rt, alloc);
     let parts = kept_part::<R, P>(rt, alloc, OPTIONS, &is_out, &is_asleep);
     let (table, first, second) = opened_over(rt, alloc, OPTIONS, parts);
     let second = asked_while_out(
-        rt, alloc, &table, first, second, &is_out, &is_asleep, watch, act, result,
+        rt, alloc, &table, first, second, &is_out, &is_asleep, watch, act, wanted,
     );
     let mut closed = table.close(second);
     let has_met = next_met(rt, &mut closed);
