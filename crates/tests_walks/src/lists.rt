@@ -289,12 +289,7 @@ fn is_answered<R: Threads + Sync>(rt: &R, alloc: Global, count: usize) -> bool {
 
 /// Returns how many allocations the answers of a list take, where each fails in turn, alone or together with all later
 /// ones.
-fn refusals<R: Threads + Sync>(
-    rt: &R,
-    alloc: Global,
-    work: Work<'_>,
-    onward: bool,
-) -> Option<u64> {
+fn refusals<R: Threads + Sync>(rt: &R, alloc: Global, work: Work<'_>, onward: bool) -> Option<u64> {
     let before = planned(rt, alloc, Plan::Never, work)?.before;
     for request in 1..MOST_REQUESTS {
         let first = before.saturating_add(request);
