@@ -29,5 +29,7 @@ mod routine;
 mod stop;
 
 pub use code_writer::{encode, one_code, read_back};
+pub use constant::read_constant;
 pub use fault::FileFault;
 pub use reading::decode;
+pub use stop::{FileCause, FileStop};

@@ -44,9 +44,10 @@ fn put_binary<A: Allocator>(bytes: &[u8], out: &mut Vec<u8, A>) -> Result<(), Al
     out.extend_from_slice(bytes)
 }
 
-/// Appends a constant. The recursion is as deep as the term, at most 255 levels.
+/// Appends the bytes of a term, as constants have them in code files. The recursion is as deep as the term, at most 255
+/// levels. Fails if an allocation fails: a beginning of the bytes may be appended then.
 #[cycle(constant)]
-fn put_constant<A: Allocator, B: Allocator>(
+pub fn put_constant<A: Allocator, B: Allocator>(
     term: &Term<A>,
     out: &mut Vec<u8, B>,
 ) -> Result<(), AllocError>

@@ -21,6 +21,7 @@ mod number;
 mod opcode;
 mod routine;
 
+pub use constant::put_constant;
 pub use encoding::encode;
 pub use laws::{one_code, read_back};
 pub use opcode::{Bare, Double, MAX_OPCODE, MAX_PLAIN_OPCODE, Opcode, Single, Slotted};

@@ -14,7 +14,7 @@ pub use Rattle.part_core.specs.Legal
 pub use Rattle.part_core.specs.Ops
 pub use Rattle.part_core.specs.Settings
 pub use Rattle.part_core.specs.declared.kind.TableKind
-pub use Rattle.tables.specs.Calls
+pub use Rattle.tables.specs.Calls as SessionCalls
 pub use Rattle.tables.specs.OneThread
 pub use Rattle.tables.specs.Opened
 pub use Rattle.tables.specs.Options
@@ -22,6 +22,11 @@ pub use Rattle.tables.specs.Sessions
 pub use Rattle.tables.specs.Turns
 pub use Rattle.tables.specs.declared.options.Options as OptionsType
 pub use Rattle.walks.specs.Alone
+pub use Rattle.open_table.specs.Calls
+pub use Rattle.open_table.specs.Parts
+pub use Rattle.open_table.specs.Queries
+pub use Rattle.open_table.specs.Shows
+pub use Rattle.open_table.specs.Walks
 pub use Rattle.walks.specs.Asked
 pub use Rattle.walks.specs.OneThread as WalksOnOneThread
 pub use Rattle.walks.specs.Pieces

@@ -6,7 +6,7 @@
 //!
 //! - [`term`] and [`text`]: terms, and their text.
 //! - [`spec`] and [`code`]: match specifications, and the code that they are compiled to, which is verified and run.
-//! - [`table`] and [`walk`]: tables, and queries of their objects.
+//! - [`table`]: tables on one thread, whose calls are methods; [`walk`]: queries of their objects.
 //! - [`threads`]: a table that sessions on several threads use at once.
 #![tactic(auto)]
 
@@ -47,26 +47,30 @@ pub mod code {
 
 /// Tables on one thread.
 pub mod table {
-    pub use part_core::{Fault, OpenFault, Part, TableKind};
+    pub use open_table::OpenTable;
+    pub use part_core::{Fault, OpenFault, TableKind};
     pub use part_hash::HashPart;
     pub use part_order::OrderPart;
-    pub use tables::{
-        LocalAt, LocalTable, Options, Turns, delete, delete_object, fix, insert, insert_new,
-        lookup, member, release, take, unfix,
-    };
+    use std::alloc::Global;
+    pub use tables::Options;
+
+    /// A table of any kind, which one thread uses.
+    pub type Table<A = Global> = OpenTable<HashPart<A>, OrderPart<A>, A>;
 }
 
-/// Walks through tables: queries, keys, and answers at once or in pieces.
+/// What queries of tables are made of and return.
 pub mod walk {
     pub use walk_query::Query;
-    pub use walks::{
-        Continuation, Step, WalkFault, first, next, select, select_count, select_delete,
-        select_limit, select_more,
-    };
+    pub use walks::{Continuation, Step, WalkFault};
 }
 
-/// A table whose sessions run on several threads at once, and selections by several workers.
+/// A table whose sessions run on several threads at once, the calls of a session, and selections by several workers.
 pub mod threads {
     pub use parallel_select::{SelectFault, count_parts, delete_parts, select_parts};
-    pub use tables::{At, Session, Table as SharedTable};
+    pub use part_core::Part;
+    pub use tables::{
+        At, Session, Table as SharedTable, Turns, delete, delete_object, fix, insert, insert_new,
+        lookup, member, release, take, unfix,
+    };
+    pub use walks::{first, next, select, select_count, select_delete, select_limit, select_more};
 }

@@ -3,7 +3,7 @@ use code_file::FileFault;
 use mspec_syntax::SpecFault;
 use parallel_select::SelectFault;
 use part_core::OpenFault;
-use std::alloc::AllocError;
+use std::alloc::{AllocError, AllocFailed};
 use term_core::Refused;
 use term_text::TextFault;
 use thiserror::Error as ThisError;
@@ -76,6 +76,18 @@ impl From<AllocError> for Error {
     ghost from_gives = { λ _ error. error ≡ Memory };
 
     fn from(_: AllocError) -> Self {
+        Error::Memory
+    }
+}
+
+impl<T: Drop> From<AllocFailed<T>> for Error {
+    ghost use Rattle.std.specs.Prelude.{◌≡◌};
+    ghost use Rattle.ets_error.specs.declared.error.Error.TheVariants.{Memory};
+
+    ghost from_gives = { λ _ error. error ≡ Memory };
+
+    /// Drops the value that did not fit.
+    fn from(_: AllocFailed<T>) -> Self {
         Error::Memory
     }
 }

@@ -1,11 +1,10 @@
-//! The library in use: tables and a filter on one thread (`local`), a table whose sessions run on threads of their own
-//! (`threads`), and what tables are built on (`code`).
+//! The library in use: tables and a filter on one thread (`local`), and a table whose sessions run on threads of their own
+//! (`threads`).
 #![tactic(auto)]
 
 use std::io::Write;
 use std::process::ExitCode;
 
-mod code;
 mod local;
 mod threads;
 
@@ -16,14 +15,7 @@ fn main(rt: HostRuntime) -> ExitCode {
     let Some(of_threads) = threads::lines(&rt, rt.alloc()) else {
         return ExitCode::FAILURE;
     };
-    let Some(of_parts) = code::lines(&rt, rt.alloc()) else {
-        return ExitCode::FAILURE;
-    };
-    for lines in [
-        of_one_thread.as_slice(),
-        of_threads.as_bytes(),
-        of_parts.as_bytes(),
-    ] {
+    for lines in [of_one_thread.as_slice(), of_threads.as_bytes()] {
         if rt.stdout().write_all(lines).is_err() {
             return ExitCode::FAILURE;
         }

@@ -3,9 +3,9 @@ ghost use Rattle.std.specs.Prelude.{◌≡◌};
 ghost use Rattle.ets.specs.Opened.{AllOpened};
 ghost use Rattle.ets.specs.Sessions.{IsOpened};
 
-use ets::table::{HashPart, Options, Part, TableKind, Turns, insert};
+use ets::table::{HashPart, Options, TableKind};
 use ets::term::Term;
-use ets::threads::{Session, SharedTable};
+use ets::threads::{Part, Session, SharedTable, Turns, insert};
 use std::alloc::Global;
 use std::io::Write;
 use std::sync::Wait;

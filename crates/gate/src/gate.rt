@@ -1,5 +1,5 @@
 //! The gate of one part.
-ghost use Rattle.std.specs.Prelude.{ℕ, ◌+◌, ◌≡◌, ◌≢◌, ◌<◌, ◌⊎◌, ◌++◌, Bool, IsTrue, MatchBool, MatchResult, None, IfOk, IfErr, OnOk, [], ◌∷◌, map};
+ghost use Rattle.std.specs.Prelude.{ℕ, ◌+◌, ◌≡◌, ◌≢◌, ◌<◌, ◌⊎◌, ◌++◌, Bool, IsTrue, MatchBool, MatchResult, None, IfNone, IfSome, IfOk, IfErr, OnOk, [], ◌∷◌, map};
 ghost use Rattle.std.specs.List.{range_with_len};
 ghost use Rattle.part_core.specs.Acts.{IsAsked};
 ghost use Rattle.part_core.specs.Legal.{fix_count};
@@ -22,7 +22,7 @@ use std::snapshot::Snapshot;
 use std::sync::Wait;
 
 /// How many times a session looks for the part before it parks.
-const LOOKS: u32 = 1_000;
+const LOOKS: u64 = 1_000;
 
 /// Where the part is at home: its slot, and the word that says whether it is there.
 #[derive(Drop)]
@@ -52,14 +52,14 @@ impl<P: Part<A> + Drop, A: Allocator> Model for Gate<P, A> {
 }
 
 impl<P: Part<A> + Drop, A: Allocator> Gate<P, A> {
-    /// Tries to take the part out, up to 1,000 times. Returns whether it did.
-    fn take_soon(&self, seat: &mut Seat<P, View>, _number: u8) -> bool
+    /// Tries to take the part out, at most `looks` times and at least once. Returns whether it did.
+    fn take_soon(&self, seat: &mut Seat<P, View>, _number: u8, looks: u64) -> bool
         requires { (seat.old.table_id ≡ self.now) × (seat.old.me.0.role ≡ Session _number) × (seat.old.me.1 ≡ []) }
         ensures seat { seat.new.table_id ≡ seat.old.table_id }
         ensures taken { MatchBool result (IsTaken P.settings P.is_after seat.old.me seat.new.me) (seat.new.me ≡ seat.old.me) }
     {
         let shared = &self.home.table.shared;
-        for _look in 0..LOOKS {
+        for _look in 0..looks.max(1) {
             if shared.peek(0) == 0 {
                 if shared.compare_exchange::<Take<A>>(seat, 0, 0, 1) == 0 {
                     return true;
@@ -76,7 +76,7 @@ impl<P: Part<A> + Drop, A: Allocator> Gate<P, A> {
         ensures seat { seat.new.table_id ≡ seat.old.table_id }
         ensures taken { IsTaken P.settings P.is_after seat.old.me seat.new.me }
     {
-        if self.take_soon(seat, number) {
+        if self.take_soon(seat, number, LOOKS) {
             return;
         }
         let shared = &self.home.table.shared;
@@ -116,14 +116,14 @@ impl<P: Part<A> + Drop, A: Allocator> Gate<P, A> {
         (answer, fixes)
     }
 
-    /// Puts the part back, and wakes a thread that may be waiting for it.
+    /// Puts the part back. Returns whether a thread may be waiting for it.
     fn put_back<'a, E: Adds>(
         &self,
         seat: &mut Seat<P, View>,
         _number: u8,
         _asked: &Snapshot<PartOp<'a, A>>,
         _answer: &Result<Reply<A>, Fault>,
-    )
+    ) -> bool
         requires gate { seat.old.table_id ≡ self.now }
         requires more { E.more ≡ entries_made _number (act_of _asked.now.value) _answer.now }
         requires role { seat.old.me.0.role ≡ Holder _number }
@@ -131,10 +131,7 @@ impl<P: Part<A> + Drop, A: Allocator> Gate<P, A> {
         ensures gate { seat.new.table_id ≡ seat.old.table_id }
         ensures back { seat.new.me ≡ (seer seat.old.me.0 (seat.old.me.0.seen ++ entries_made _number (act_of _asked.now.value) _answer.now), []) }
     {
-        let shared = &self.home.table.shared;
-        if shared.swap::<PutBack<E>>(seat, 0, 0) == 2 {
-            shared.wake_one(0);
-        }
+        self.home.table.shared.swap::<PutBack<E>>(seat, 0, 0) == 2
     }
 
     /// Makes a pass for the next session.
@@ -176,8 +173,44 @@ impl<P: Part<A> + Drop, A: Allocator> Gate<P, A> {
         self.take(rt, &mut pass.seat, number);
         let (answer, fixes) = self.operate(&mut pass.seat, number, op);
         pass.fixes = fixes;
-        self.put_back::<Brand>(&mut pass.seat, number, &asked, &answer);
+        if self.put_back::<Brand>(&mut pass.seat, number, &asked, &answer) {
+            self.home.table.shared.wake_one(0);
+        }
         answer
+    }
+
+    /// Takes the part out if one of `looks` looks finds it, at least one, performs an operation on it for the session,
+    /// and puts it back. Returns `None` if each look finds that another session has it; then nothing was done. If the
+    /// operation fails, `op` and the part are as they were; running out of memory leaves no entry in the history.
+    ///
+    /// It waits for nobody and wakes nobody: a session that waits in `turn` of the same gate may then sleep on, so a
+    /// gate is either for `turn` or for `ask`.
+    pub fn ask<'a>(
+        &self,
+        pass: &mut Pass<P>,
+        op: &mut PartOp<'a, A>,
+        looks: u64,
+    ) -> Option<Result<Reply<A>, Fault>>
+        requires made { pass.old.gate ≡ self.now }
+        requires asked { IsAsked (act_of op.old) }
+        ensures same { pass.new ≡ ticket_with pass.old pass.new.log }
+        ensures busy { IfNone result ((pass.new ≡ pass.old) × (op.new ≡ op.old)) }
+        ensures entry { IfSome result (λ answer.
+            IsTurn pass.old.settings pass.old.number pass.old.log (act_of op.old) (answer_in answer) pass.new.log) }
+        ensures back { IfSome result (λ answer. IfErr answer (λ fault. op.new ≡ op.old)) }
+        ensures spent { IfSome result (λ answer. OnOk answer (object_in op.new ≡ None)) }
+        ensures sure { IfSome result (λ answer. IsTrue (takes_no_memory (act_of op.old))
+            → IfErr answer (λ fault. fault ≢ Fault.Memory)) }
+    {
+        let wanted = Snapshot::of(op);
+        let number = pass.number;
+        if !self.take_soon(&mut pass.seat, number, looks) {
+            return None;
+        }
+        let (reply, count) = self.operate(&mut pass.seat, number, op);
+        pass.fixes = count;
+        let _is_awaited = self.put_back::<Brand>(&mut pass.seat, number, &wanted, &reply);
+        Some(reply)
     }
 
     /// Shows that of what two sessions have seen of the part, one begins with the other. It never waits.

@@ -1,5 +1,5 @@
 //! A session: its passes through the gates of a table.
-ghost use Rattle.std.specs.Prelude.{ℕ, ◌≡◌, ◌≢◌, ◌<◌, ◌⊎◌, ◌++◌, None, Some, IsTrue, IfErr, IfOk, OnOk, [], ◌∷◌, slice_get};
+ghost use Rattle.std.specs.Prelude.{ℕ, ◌≡◌, ◌≢◌, ◌<◌, ◌⊎◌, ◌++◌, None, Some, IsTrue, IfNone, IfSome, IfErr, IfOk, OnOk, [], ◌∷◌, slice_get};
 ghost use Rattle.part_core.specs.Acts.{IsAsked};
 ghost use Rattle.part_core.specs.Legal.{fix_count};
 ghost use Rattle.part_core.specs.Ops.{act_of, answer_in, object_in, takes_no_memory};
@@ -44,6 +44,31 @@ impl<P: Part<A> + Drop, A: Allocator> Session<P, A> {
             → IfErr result (λ fault. fault ≢ Fault.Memory) }
     {
         gate.turn(rt, &mut self.passes[usize::from(part)], op)
+    }
+
+    /// Performs an operation at a part, if one of `looks` looks at its gate, at least one, finds the part there. Returns
+    /// `None` if each look finds that another session has it; then nothing was done. It waits for nobody and wakes
+    /// nobody (`Gate::ask`). If the operation fails, `op` and the part are as they were; running out of memory leaves no
+    /// entry in the history.
+    pub fn ask<'a>(
+        &mut self,
+        gate: &Gate<P, A>,
+        part: u8,
+        op: &mut PartOp<'a, A>,
+        looks: u64,
+    ) -> Option<Result<Reply<A>, Fault>>
+        requires made { (pass : Ticket) × (slice_get self.old.passes.items part ≡ Some pass) × (pass.gate ≡ gate.now) }
+        requires asked { IsAsked (act_of op.old) }
+        ensures number { self.new.number ≡ self.old.number }
+        ensures busy { IfNone result ((self.new.passes.items ≡ self.old.passes.items) × (op.new ≡ op.old)) }
+        ensures entry { IfSome result (λ answer.
+            IsTurnAt self.old.passes.items part (act_of op.old) (answer_in answer) self.new.passes.items) }
+        ensures back { IfSome result (λ answer. IfErr answer (λ fault. op.new ≡ op.old)) }
+        ensures spent { IfSome result (λ answer. OnOk answer (object_in op.new ≡ None)) }
+        ensures sure { IfSome result (λ answer. IsTrue (takes_no_memory (act_of op.old))
+            → IfErr answer (λ fault. fault ≢ Fault.Memory)) }
+    {
+        gate.ask(&mut self.passes[usize::from(part)], op, looks)
     }
 
     /// Compares what this session and another have seen of a part: one of the two histories begins with the other.

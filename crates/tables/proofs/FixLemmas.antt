@@ -1,17 +1,18 @@
 -- Changes of counts of fixes, part by part.
-use Rattle.std.proofs.Common.{◌≡◌, ◌≢◌, ℕ, Result, IfErr, ◌+◌, ◌<◌, ◌≤◌, ◌==◌, ◌++◌, refl, ap, sym, subst, ◌∙◌, arith, Bool, true, false, if◌then◌else◌, Some, IsTrue}
+use Rattle.std.proofs.Common.{◌≡◌, ◌≢◌, ℕ, Result, IfErr, ◌+◌, ◌<◌, ◌≤◌, ◌==◌, ◌⊎◌, inl, inr, ◌++◌, [], refl, ap, sym, subst, ◌∙◌, arith, Bool, true, false, if◌then◌else◌, Option, option_map, Some, None, IfSome, IsTrue, IsFalse}
 use Rattle.std.specs.Prelude.{nat_lt}
 use Rattle.std.specs.Result.{is_ok}
 use Rattle.std.proofs.Math.Logic.{∥∥₁_map}
 use Rattle.std.proofs.lemmas.Bool.{eqb-true, eqb-false, false≢true}
+use Rattle.std.proofs.lemmas.List.{append-nil}
 use Rattle.part_core.specs.declared.fault.Fault.{Fault}
 use Rattle.part_core.specs.declared.fault.Fault.TheVariants as fault
 use Rattle.part_core.specs.declared.reply.Reply.{Reply}
-use Rattle.part_core.specs.Ops.{answer_in, takes_no_memory}
+use Rattle.part_core.specs.Ops.{answer_in, refusal_of, takes_no_memory}
 use Rattle.part_core.specs.declared.settings.Settings.{Settings}
-use Rattle.part_core.specs.Acts.{Act, Answer, Said, History, is_refused}
+use Rattle.part_core.specs.Acts.{Act, Answer, Refusal, Said, History, is_refused}
 use Rattle.part_core.specs.Acts.Answer.{Replied, Refused}
-use Rattle.part_core.specs.Acts.Refusal.{FixLimit, NotFixed}
+use Rattle.part_core.specs.Acts.Refusal.{TooSmall, FixLimit, NotFixed, BadKey, CursorOutside}
 use Rattle.part_core.specs.Acts.Said.{Nothing}
 use Rattle.part_core.specs.Rows.{PartState}
 use Rattle.part_core.specs.Replies.{reply_of, fixes_of, most_fixes}
@@ -21,15 +22,15 @@ use Rattle.part_core.proofs.KeyLemmas.{by_test}
 use Rattle.tables.specs.declared.fixing.Change.{Change}
 use Rattle.tables.specs.declared.fixing.Change.TheVariants as change
 use Rattle.tables.specs.Options.{settings_of}
-use Rattle.tables.specs.Turns.{Home, Views, TurnedAt, Turned, Follows}
+use Rattle.tables.specs.Turns.{Home, Views, TurnedAt, Turned, TurnedEach, Follows}
 use Rattle.tables.specs.Calls.{is_granted, IsGranted}
-use Rattle.tables.specs.Fixing.{act_of_change}
+use Rattle.tables.specs.Fixing.{act_of_change, reached, IsGrantedFrom, TurnedFrom}
 use Rattle.tables.proofs.TurnLemmas.{count_own, met, turned_right, turned_front, surely_done}
 
--- turns at the parts below a number, and none at the others
-pub record TurnedBelow (h : Home) (act : Act) (part : ℕ) (v w : Views) : Type 0 where
-  pub below : (k : ℕ) → k < part → TurnedAt h (v k) act (Some (Replied Nothing)) (w k)
-  pub above : (k : ℕ) → part ≤ k → w k ≡ v k
+-- turns at the parts from one up to another, and none at the others
+pub record TurnedWithin (h : Home) (act : Act) (from part : ℕ) (v w : Views) : Type 0 where
+  pub turned : (k : ℕ) → from ≤ k → k < part → TurnedAt h (v k) act (Some (Replied Nothing)) (w k)
+  pub rest : (k : ℕ) → (k < from) ⊎ (part ≤ k) → w k ≡ v k
 
 -- a change that a count allows is answered with nothing
 pub granted_said : (o : Settings) (s : PartState) (n : ℕ) (c : Change) → is_granted (act_of_change c) (fixes_of s n) ≡ true
@@ -49,46 +50,110 @@ granted_turn h old new c answer session granted t =
     turned_right h old new (act_of_change c) answer t ∙ granted_said o (state_after o (old ++ t.between)) h.number c (ap (is_granted (act_of_change c)) counted ∙ granted)
 
 -- a change that was made at some parts is made at one more
-pub turned_more : (h : Home) (c : Change) (part : ℕ) (answer : Answer) (v w x : Views) → h.number < (settings_of h.options).sessions
+turned_more : (h : Home) (c : Change) (from part : ℕ) (answer : Answer) (v w x : Views) → h.number < (settings_of h.options).sessions → from ≤ part
     → is_granted (act_of_change c) (fix_count h.number (v part)) ≡ true
-    → TurnedBelow h (act_of_change c) part v w → Turned h part (act_of_change c) (Some answer) w x
-    → TurnedBelow h (act_of_change c) (part + 1) v x
-turned_more h c part answer v w x session granted before t =
-    let here : TurnedAt h (v part) (act_of_change c) (Some answer) (x part) = subst (λ (old : History). TurnedAt h old (act_of_change c) (Some answer) (x part)) (before.above part (omega arith)) t.here in
+    → TurnedWithin h (act_of_change c) from part v w → Turned h part (act_of_change c) (Some answer) w x
+    → TurnedWithin h (act_of_change c) from (part + 1) v x
+turned_more h c from part answer v w x session up granted before t =
+    let here : TurnedAt h (v part) (act_of_change c) (Some answer) (x part) = subst (λ (old : History). TurnedAt h old (act_of_change c) (Some answer) (x part)) (before.rest part (inr (omega arith))) t.here in
     let done : TurnedAt h (v part) (act_of_change c) (Some (Replied Nothing)) (x part) = subst (λ (a : Answer). TurnedAt h (v part) (act_of_change c) (Some a) (x part)) (granted_turn h (v part) (x part) c answer session granted here) here in
     record {
-      below = λ k less. by_test (k == part) (TurnedAt h (v k) (act_of_change c) (Some (Replied Nothing)) (x k))
+      turned = λ k low high. by_test (k == part) (TurnedAt h (v k) (act_of_change c) (Some (Replied Nothing)) (x k))
           (λ same. subst (λ (j : ℕ). TurnedAt h (v j) (act_of_change c) (Some (Replied Nothing)) (x j)) (sym (eqb-true k part same)) done)
-          (λ other. let apart : k ≢ part = eqb-false k part other in subst (TurnedAt h (v k) (act_of_change c) (Some (Replied Nothing))) (sym (t.rest k apart)) (before.below k (omega (arith, less, apart))));
-      above = λ k more. t.rest k (omega (arith, more)) ∙ before.above k (omega (arith, more));
+          (λ other. let apart : k ≢ part = eqb-false k part other in subst (TurnedAt h (v k) (act_of_change c) (Some (Replied Nothing))) (sym (t.rest k apart)) (before.turned k low (omega (arith, high, apart))));
+      rest = λ k off. t.rest k (apart_from k off) ∙ before.rest k (less k off);
     }
+  where
+    apart_from : (k : ℕ) → (k < from) ⊎ (part + 1 ≤ k) → k ≢ part
+    apart_from k (inl low) = omega (arith, low, up)
+    apart_from k (inr high) = omega (arith, high)
 
--- a change that each count allows is made, not refused
-pub change_done : {A : Type 0} (h : Home) (c : Change) (part : ℕ) (before now later : Views → Type 0) (result : Result (Reply A) Fault)
-    → h.number < (settings_of h.options).sessions → part < h.options.parts → ∥ ((v : Views) × before v) ∥₁
-    → ((v : Views) → before v → IsGranted h (act_of_change c) v)
-    → Follows before now (TurnedBelow h (act_of_change c) part)
-    → Follows now later (Turned h part (act_of_change c) (answer_in result))
-    → IfErr result (λ f. f ≢ fault.Memory) → IsTrue (is_ok result)
-change_done h c part before now later result session inside seen granted below turn sure =
-    surely_done h part (act_of_change c) (λ w. (v : Views) × before v × now w × TurnedBelow h (act_of_change c) part v w) later result
-    (∥∥₁_map seen (λ s. ((below s.0 s.1).0, (s.0, s.1, (below s.0 s.1).1, (below s.0 s.1).2))))
-    (λ w b. turn w b.2) sure
-    (λ w x refusal b t.
-    let here : TurnedAt h (b.0 part) (act_of_change c) (Some (Refused refusal)) (x part) = subst (λ (old : History). TurnedAt h old (act_of_change c) (Some (Refused refusal)) (x part)) (b.3.above part (omega arith)) t.here in
-    false≢true (sym (ap is_refused (granted_turn h (b.0 part) (x part) c (Refused refusal) session (granted b.0 b.1 part inside) here))))
+    less : (k : ℕ) → (k < from) ⊎ (part + 1 ≤ k) → (k < from) ⊎ (part ≤ k)
+    less k (inl low) = inl low
+    less k (inr high) = inr (omega (arith, high))
 
--- a change that each count allows is made at one more part
-pub change_step : (h : Home) (c : Change) (part : ℕ) (before now later : Views → Type 0) (answer : Answer)
-    → h.number < (settings_of h.options).sessions → part < h.options.parts
-    → ((v : Views) → before v → IsGranted h (act_of_change c) v)
-    → Follows before now (TurnedBelow h (act_of_change c) part)
-    → Follows now later (Turned h part (act_of_change c) (Some answer))
-    → Follows before later (TurnedBelow h (act_of_change c) (part + 1))
-change_step h c part before now later answer session inside granted below turn = λ v b.
-    let w = below v b in
-    let x = turn w.0 w.1 in
-    (x.0, x.1, turned_more h c part answer v w.0 x.0 session (granted v b part inside) w.2 x.2)
+module _ (h : Home) (c : Change) (from part : ℕ) (before now later : Views → Type 0) (session : h.number < (settings_of h.options).sessions) (up : from ≤ part) (inside : part < h.options.parts) (granted : (v : Views) → before v → IsGrantedFrom h from c v) (within : Follows before now (TurnedWithin h (act_of_change c) from part)) where
+  -- a change that each count allows is not refused
+  not_refused : (v w x : Views) (refusal : Refusal) → before v → TurnedWithin h (act_of_change c) from part v w
+      → Turned h part (act_of_change c) (Some (Refused refusal)) w x → ⊥
+  not_refused v w x refusal b done t =
+      let here : TurnedAt h (v part) (act_of_change c) (Some (Refused refusal)) (x part) = subst (λ (old : History). TurnedAt h old (act_of_change c) (Some (Refused refusal)) (x part)) (done.rest part (inr (omega arith))) t.here in
+      false≢true (sym (ap is_refused (granted_turn h (v part) (x part) c (Refused refusal) session (granted v b part up inside) here)))
+
+  -- a change that each count allows is made at one more part
+  pub change_step : (answer : Answer) → Follows now later (Turned h part (act_of_change c) (Some answer))
+      → Follows before later (TurnedWithin h (act_of_change c) from (part + 1))
+  change_step answer turn = λ v b.
+      let w = within v b in
+      let x = turn w.0 w.1 in
+      (x.0, x.1, turned_more h c from part answer v w.0 x.0 session up (granted v b part up inside) w.2 x.2)
+
+  -- one that is not made there is a turn without an entry
+  halted : (f : Fault) (v w x : Views) → before v → TurnedWithin h (act_of_change c) from part v w
+      → Turned h part (act_of_change c) (option_map Refused (refusal_of f)) w x
+      → TurnedFrom h from part (act_of_change c) (Some (Replied Nothing)) v x
+  halted fault.Memory v w x b done t = record {
+    turned = λ k low high. subst (TurnedAt h (v k) (act_of_change c) (Some (Replied Nothing))) (sym (t.rest k (omega (arith, high)))) (done.turned k low high);
+    next = (t.here.between, t.here.others, t.here.grown ∙ append-nil (w part ++ t.here.between) ∙ ap (λ (log : History). log ++ t.here.between) (done.rest part (inr (omega arith))));
+    rest = λ k off. t.rest k (apart_from k off) ∙ done.rest k (less k off);
+  }
+    where
+      apart_from : (k : ℕ) → k < from ⊎ part < k → k ≢ part
+      apart_from k (inl low) = omega (arith, low, up)
+      apart_from k (inr high) = omega (arith, high)
+
+      less : (k : ℕ) → k < from ⊎ part < k → (k < from) ⊎ (part ≤ k)
+      less k (inl low) = inl low
+      less k (inr high) = inr (omega (arith, high))
+  halted fault.TooSmall v w x b done t = absurd (not_refused v w x TooSmall b done t)
+  halted fault.FixLimit v w x b done t = absurd (not_refused v w x FixLimit b done t)
+  halted fault.NotFixed v w x b done t = absurd (not_refused v w x NotFixed b done t)
+  halted fault.BadKey v w x b done t = absurd (not_refused v w x BadKey b done t)
+  halted fault.CursorOutside v w x b done t = absurd (not_refused v w x CursorOutside b done t)
+
+  pub change_halts : (f : Fault) → Follows now later (Turned h part (act_of_change c) (option_map Refused (refusal_of f)))
+      → Follows before later (TurnedFrom h from part (act_of_change c) (Some (Replied Nothing)))
+  change_halts f turn = λ v b.
+      let w = within v b in
+      let x = turn w.0 w.1 in
+      (x.0, x.1, halted f v w.0 x.0 b w.2 x.2)
+
+  -- it is not made only if its turn was put off
+  pub change_put_off : (made : Bool) {A : Type 0} (result : Result (Reply A) Fault) → ∥ ((v : Views) × before v) ∥₁
+      → Follows now later (Turned h part (act_of_change c) (answer_in result))
+      → (IsTrue made → IfErr result (λ f. f ≢ fault.Memory)) → is_ok result ≡ false → made ≡ false
+  change_put_off false result seen turn sure failed = refl
+  change_put_off true result seen turn sure failed =
+      absurd (false≢true (sym failed ∙ surely_done h part (act_of_change c) (λ w. (v : Views) × before v × now w × TurnedWithin h (act_of_change c) from part v w) later result
+      (∥∥₁_map seen (λ s. ((within s.0 s.1).0, (s.0, s.1, (within s.0 s.1).1, (within s.0 s.1).2))))
+      (λ w b. turn w b.2) (sure refl) (λ w x refusal b t. not_refused b.0 w x refusal b.1 b.3 t)))
+
+-- a change that has reached the end
+pub change_ends : (h : Home) (c : Change) (from part : ℕ) (before now : Views → Type 0) → h.options.parts ≤ part → part ≤ h.options.parts
+    → Follows before now (TurnedWithin h (act_of_change c) from part)
+    → Follows before now (TurnedFrom h from h.options.parts (act_of_change c) (Some (Replied Nothing)))
+change_ends h c from part before now low high within = λ v b.
+    let w = within v b in (
+      w.0,
+      w.1,
+      record {
+        turned = λ k above below. w.2.turned k above (omega (arith, below, low));
+        next = ([], record { others = refl; alone = λ alone. refl }, w.2.rest h.options.parts (inr high) ∙ sym (append-nil (v h.options.parts)));
+        rest = λ k off. w.2.rest k (less k off);
+      },
+    )
+  where
+    less : (k : ℕ) → k < from ⊎ h.options.parts < k → (k < from) ⊎ (part ≤ k)
+    less k (inl below) = inl below
+    less k (inr above) = inr (omega (arith, above, high))
+
+-- a change from the first part on that is never put off is made at each part
+pub change_all : (h : Home) (c : Change) (before now : Views → Type 0) (made : Bool) (at : Option ℕ) → IsTrue made
+    → Follows before now (TurnedFrom h 0 (reached h.options at) (act_of_change c) (Some (Replied Nothing)))
+    → IfSome at (λ part. (0 ≤ part) × (part < h.options.parts) × IsFalse made)
+    → Follows before now (TurnedEach h (act_of_change c) (Some (Replied Nothing)))
+change_all h c before now made None sure turned put_off = λ v b. let t = turned v b in (t.0, t.1, λ part inside. t.2.turned part (omega arith) inside)
+change_all h c before now made (Some part) sure turned put_off = absurd (false≢true (sym put_off.2 ∙ sure))
 
 -- no change allocates
 pub change_sure : (c : Change) → takes_no_memory (act_of_change c) ≡ true

@@ -1,7 +1,9 @@
 -- A session finds what it has inserted.
-use Rattle.std.proofs.Common.{◌≡◌, ◌++◌, List, [], ◌∷◌, fold, refl, ap, sym, subst, ◌∙◌, arith, All, Some}
+use Rattle.std.proofs.Common.{ℕ, ◌≡◌, ◌≢◌, ◌<◌, ◌≤◌, ◌==◌, ◌⊎◌, inl, inr, ◌++◌, List, [], ◌∷◌, append_assoc, fold, refl, ap, sym, subst, ◌∙◌, arith, All, Option, Some}
+use Rattle.std.specs.Prelude.{nat_lt}
+use Rattle.std.proofs.lemmas.Bool.{eqb-true, eqb-false, ltb-true, ltb-false}
 use Rattle.std.specs.List.{Contains, list_any}
-use Rattle.std.proofs.lemmas.List.Elements.{All-head, All-tail, Contains-append_right}
+use Rattle.std.proofs.lemmas.List.Elements.{All-head, All-tail, Contains-append_right, filter-append}
 use Rattle.std.proofs.lemmas.List.Sums.{fold-append}
 use Rattle.std.proofs.lemmas.Map.Views.{Contains-from_any}
 use Rattle.term_core.specs.Datum.{Datum}
@@ -10,7 +12,7 @@ use Rattle.part_core.specs.declared.kind.TableKind.{TableKind}
 use Rattle.part_core.specs.declared.kind.TableKind.TheVariants as kind
 use Rattle.part_core.specs.declared.settings.Settings.{Settings}
 use Rattle.part_core.specs.Settings.{key_of, part_of}
-use Rattle.part_core.specs.Acts.{Entry, History}
+use Rattle.part_core.specs.Acts.{Act, Answer, Entry, History}
 use Rattle.part_core.specs.Acts.Act.{Insert, Lookup}
 use Rattle.part_core.specs.Acts.Answer.{Replied}
 use Rattle.part_core.specs.Acts.Said.{Nothing, Objects}
@@ -21,7 +23,9 @@ use Rattle.part_core.specs.Content.{written, content}
 use Rattle.part_core.proofs.KeyLemmas.{by_test, same_is, same_from}
 use Rattle.part_core.proofs.HistoryLemmas.{content_of}
 use Rattle.tables.specs.Options.{settings_of}
-use Rattle.tables.specs.Turns.{Home, Views, TurnedAt, TurnedByKey}
+use Rattle.part_core.specs.Ops.{entries_of}
+use Rattle.tables.specs.Turns.{Home, Views, IsBetween, TurnedAt, TurnedByKey}
+use Rattle.tables.specs.Fixing.{SeesMore, TurnedFrom}
 use Rattle.tables.specs.Laws.{Leaves, IsSeen}
 use Rattle.tables.proofs.TurnLemmas.{turned_right, turned_front}
 
@@ -76,3 +80,62 @@ inserts_are_seen h t v w x found insert look =
       says = is;
       there = λ leave. subst (λ (os : List Datum). Contains os t) (sym (is ∙ fold-append _ [] (w p) between)) (stays o t between (content o k (w p)) leave put);
     }
+
+-- ---- changes that go on
+
+-- what is seen more, and then more again
+sees_more_twice : (h : Home) (old middle new : History) → SeesMore h old middle → SeesMore h middle new → SeesMore h old new
+sees_more_twice h old middle new one two = (
+  one.0 ++ two.0,
+  between_both h one.0 two.0 one.1 two.1,
+  two.2 ∙ ap (λ (es : History). es ++ two.0) one.2 ∙ append_assoc old one.0 two.0,
+)
+  where
+    between_both : (h : Home) (a b : History) → IsBetween h a → IsBetween h b → IsBetween h (a ++ b)
+    between_both h a b x y = record {
+      others = filter-append (λ (e : Entry). e.session == h.number) a b ∙ (λ i. x.others i ++ y.others i);
+      alone = λ alone. λ i. x.alone alone i ++ y.alone alone i;
+    }
+
+-- more that is seen before a turn is seen by the turn
+sees_more_turned : (h : Home) (old middle new : History) (act : Act) (answer : Option Answer) → SeesMore h old middle
+    → TurnedAt h middle act answer new → TurnedAt h old act answer new
+sees_more_turned h old middle new act answer more turn =
+    let both = sees_more_twice h old middle (middle ++ turn.between) more (turn.between, turn.others, refl) in
+    record {
+      between = both.0;
+      others = both.1;
+      grown = turn.grown ∙ ap (λ (es : History). es ++ entries_of h.number act answer) both.2;
+      legal = turn.legal;
+    }
+
+module _ (h : Home) (from at to : ℕ) (act : Act) (answer : Option Answer) (v w x : Views) (below : from ≤ at) (above : at ≤ to) (first : TurnedFrom h from at act answer v w) (second : TurnedFrom h at to act answer w x) where
+  turned_on : (part : ℕ) → from ≤ part → part < to → TurnedAt h (v part) act answer (x part)
+  turned_on part after before = by_test (part == at) _
+      (λ here. let same : part ≡ at = eqb-true part at here in
+      subst (λ (p : ℕ). TurnedAt h (v p) act answer (x p)) (sym same)
+      (sees_more_turned h (v at) (w at) (x at) act answer first.next (second.turned at (omega arith) (omega (arith, before, same)))))
+      (λ other. let apart : part ≢ at = eqb-false part at other in by_test (nat_lt part at) _
+      (λ less. subst (TurnedAt h (v part) act answer) (sym (second.rest part (inl (ltb-true part at less)))) (first.turned part after (ltb-true part at less)))
+      (λ more. subst (λ (old : History). TurnedAt h old act answer (x part)) (first.rest part (inr (omega (arith, ltb-false part at more, apart)))) (second.turned part (ltb-false part at more) before)))
+
+  next_on : SeesMore h (v to) (x to)
+  next_on = by_test (to == at) _
+      (λ here. let same : to ≡ at = eqb-true to at here in
+      sees_more_twice h (v to) (w to) (x to) (subst (λ (p : ℕ). SeesMore h (v p) (w p)) (sym same) first.next) second.next)
+      (λ other. subst (λ (old : History). SeesMore h old (x to)) (first.rest to (inr (omega (arith, above, eqb-false to at other)))) second.next)
+
+  pub changes_go_on : TurnedFrom h from to act answer v x
+  changes_go_on = record {
+    turned = turned_on;
+    next = next_on;
+    rest = λ part apart. second.rest part (below_at part apart) ∙ first.rest part (off part apart);
+  }
+    where
+      below_at : (part : ℕ) → part < from ⊎ to < part → part < at ⊎ to < part
+      below_at part (inl less) = inl (omega (arith, less, below))
+      below_at part (inr more) = inr more
+
+      off : (part : ℕ) → part < from ⊎ to < part → part < from ⊎ at < part
+      off part (inl less) = inl less
+      off part (inr more) = inr (omega (arith, more, above))

@@ -1,7 +1,7 @@
 -- Turns of a session at a table whose parts have gates.
-use Rattle.std.proofs.Common.{ℕ, ◌+◌, ◌==◌, ◌≡◌, ◌≢◌, ◌<◌, ◌≤◌, ◌⊎◌, inl, inr, ◌++◌, List, [], length, map, get_or, ap, sym, subst, ◌∙◌, arith, Option, option_map, Some, None, slice_get, append_assoc}
+use Rattle.std.proofs.Common.{ℕ, ◌+◌, ◌==◌, ◌≡◌, ◌≢◌, ◌<◌, ◌≤◌, ◌⊎◌, inl, inr, ◌++◌, List, [], length, map, get_or, refl, ap, sym, subst, ◌∙◌, arith, Option, option_map, Some, None, slice_get, append_assoc}
 use Rattle.std.proofs.lemmas.Bool.{eqb-true, eqb-false, false≢true}
-use Rattle.std.proofs.lemmas.List.{length-map}
+use Rattle.std.proofs.lemmas.List.{append-nil, length-map}
 use Rattle.std.proofs.lemmas.Option.{slice_get_cases, slice_get_within, slice_get-map, get_or_from_slice_get}
 use Rattle.std.proofs.Math.Seq.{map-set_same}
 use Rattle.part_core.specs.declared.settings.Settings.{Settings}
@@ -13,7 +13,8 @@ use Rattle.gate.specs.Views.{GateId, Ticket, ticket_with, GoesOn, own}
 use Rattle.tables.specs.declared.options.Options.{Options}
 use Rattle.tables.specs.Options.{settings_of}
 use Rattle.tables.specs.Turns.{Views, Turned, Follows}
-use Rattle.gate.specs.Sessions.{IsTurnAt}
+use Rattle.gate.specs.Sessions.{AllLegal, IsTurnAt}
+use Rattle.tables.specs.SessionFacts.{session_legal}
 use Rattle.tables.specs.Sessions.{Sees, IsOpened, session_home}
 use Rattle.tables.proofs.LocalLemmas.{got_set, grown_at, grown_here, grown_there, set_after}
 
@@ -32,6 +33,23 @@ module _ (o : Options) (gates : List GateId) (number : ℕ) (passes : List Ticke
           let both : Some pass.gate ≡ Some gate = sym (slice_get-map (λ (t : Ticket). t.gate) passes part ∙ ap (option_map (λ (t : Ticket). t.gate)) got) ∙ ap (λ (gs : List GateId). slice_get gs part) opened.made ∙ there in
           (pass, got, cc)
       of (inr (past, none)) = absurd (omega (arith, past, pass_count, opened.count, slice_get_within gates part gate there))
+
+  -- a turn that is put off is one without an entry
+  pub put_off_at : AllLegal passes → (new : List Ticket) → new ≡ passes → (part : ℕ) → part < o.parts → (act : Act) (table : ℕ)
+      → Follows (Sees passes) (Sees new) (Turned (session_home o gates number table) part act None)
+  put_off_at legal new same part inside act table = λ v sees. (
+    v,
+    subst (λ (ps : List Ticket). Sees ps v) (sym same) sees,
+    record {
+      here = record {
+        between = [];
+        others = record { others = refl; alone = λ alone. refl };
+        grown = sym (append-nil ((v part) ++ []) ∙ append-nil (v part));
+        legal = session_legal o gates number passes opened legal v sees part inside;
+      };
+      rest = λ k apart. refl;
+    },
+  )
 
   module _ (new : List Ticket) (part : ℕ) (act : Act) (answer : Option Answer) (t : IsTurnAt passes part act answer new) where
     -- a session is still opened after a turn

@@ -88,6 +88,16 @@ pub never_refused : (h : Home) (part : ℕ) (act : Act) (before now : Views → 
 never_refused h part act before now result seen follows sure never =
     surely_done h part act before now result seen follows sure (λ v w refusal b t. no_refusal h _ _ act refusal t.here never)
 
+-- an operation that does not allocate, and is refused in no state, fails only if its turn is put off
+pub only_put_off : (made : Bool) (h : Home) (part : ℕ) (act : Act) (before now : Views → Type 0) {A : Type 0} (result : Result (Reply A) Fault)
+    → ∥ ((v : Views) × before v) ∥₁ → Follows before now (Turned h part act (answer_in result))
+    → (IsTrue made → IfErr result (λ f. f ≢ fault.Memory))
+    → ((s : PartState) → is_refused (reply_of (settings_of h.options) s h.number act) ≡ false)
+    → is_ok result ≡ false → made ≡ false
+only_put_off false h part act before now result seen follows sure never failed = refl
+only_put_off true h part act before now result seen follows sure never failed =
+    absurd (false≢true (sym failed ∙ never_refused h part act before now result seen follows (sure refl) never))
+
 -- an answer that is the reply in every state is a turn's answer
 pub answered_as : (h : Home) (part : ℕ) (act : Act) (answer wanted : Answer) (before now : Views → Type 0)
     → Follows before now (Turned h part act (Some answer))

@@ -1,18 +1,19 @@
 -- What holds of every session.
-use Rattle.std.specs.Prelude.{◌≡◌, ◌++◌, Some, All, List, []}
+use Rattle.std.specs.Prelude.{ℕ, ◌≡◌, ◌≤◌, ◌++◌, Option, Some, All, List, []}
 use Rattle.std.specs.List.{Contains}
 use Rattle.term_core.specs.Datum.{Datum}
 use Rattle.part_core.specs.declared.settings.Settings.{Settings}
 use Rattle.part_core.specs.Settings.{key_of, part_of}
-use Rattle.part_core.specs.Acts.{Entry, History}
+use Rattle.part_core.specs.Acts.{Act, Answer, Entry, History}
 use Rattle.part_core.specs.Acts.Act.{Insert, Lookup}
 use Rattle.part_core.specs.Acts.Answer.{Replied}
 use Rattle.part_core.specs.Acts.Said.{Nothing, Objects}
 use Rattle.part_core.specs.Content.{written, content}
 use Rattle.gate.specs.Views.{own}
 use Rattle.tables.specs.Options.{settings_of}
-use Rattle.tables.specs.Turns.{Home, Views, TurnedByKey}
+use Rattle.tables.specs.Turns.{Home, Views, TurnedByKey, TurnedEach}
 use Rattle.tables.specs.Calls.{TurnedByObject}
+use Rattle.tables.specs.Fixing.{TurnedFrom}
 
 -- an entry leaves an object among those of its key if it was there
 abbrev pub Leaves : Settings → Datum → Entry → Type 0
@@ -33,3 +34,14 @@ InsertsAreSeen =
     → TurnedByObject h t (Insert t) (Some (Replied Nothing)) v w
     → TurnedByKey h (key_of (settings_of h.options) t) (Lookup (key_of (settings_of h.options) t)) (Some (Replied (Objects found))) w x
     → IsSeen h t (w (part_of (settings_of h.options) (key_of (settings_of h.options) t))) found
+
+-- A change that is put off and goes on is one change: from a part to another, and from there on.
+abbrev pub ChangesGoOn : Type 0
+ChangesGoOn =
+    (h : Home) (from at to : ℕ) (act : Act) (answer : Option Answer) (v w x : Views) → from ≤ at → at ≤ to
+    → TurnedFrom h from at act answer v w → TurnedFrom h at to act answer w x → TurnedFrom h from to act answer v x
+
+-- A change from the first part on that is made at all is a turn at each part.
+abbrev pub ChangesReachAll : Type 0
+ChangesReachAll =
+    (h : Home) (act : Act) (answer : Option Answer) (v w : Views) → TurnedFrom h 0 h.options.parts act answer v w → TurnedEach h act answer v w

@@ -1,6 +1,7 @@
 pub mod Options
 pub mod Turns
 pub mod Calls
+pub mod Brief
 pub mod Fixing
 pub mod Local
 pub mod LocalFacts

@@ -1,5 +1,5 @@
 //! A session at a table whose parts have gates.
-ghost use Rattle.std.specs.Prelude.{ℕ, ◌≡◌, ◌≢◌, ◌<◌, None, IsTrue, IfErr, OnOk};
+ghost use Rattle.std.specs.Prelude.{ℕ, ◌≡◌, ◌≢◌, ◌<◌, None, true, IsTrue, IfErr, OnOk};
 ghost use Rattle.part_core.specs.Acts.{IsAsked};
 ghost use Rattle.part_core.specs.Legal.{fix_count};
 ghost use Rattle.part_core.specs.Ops.{act_of, answer_in, object_in, takes_no_memory};
@@ -8,7 +8,7 @@ ghost use Rattle.tables.specs.Turns.{Views, Turned};
 
 use crate::options::Options;
 use crate::table::Table;
-use crate::turns::Turns;
+use crate::turns::{TryTurns, Turns};
 use gate::Session;
 use part_core::{Fault, Part, PartOp, Reply};
 use std::alloc::Allocator;
@@ -25,7 +25,7 @@ pub struct At<'t, P: Part<A> + Drop, A: Allocator, R> {
     pub rt: &'t R,
 }
 
-impl<'t, A: Allocator, P: Part<A> + Drop, R: Wait> Turns<A> for At<'t, P, A, R> {
+impl<'t, A: Allocator, P: Part<A> + Drop, R: Wait> TryTurns<A> for At<'t, P, A, R> {
     ghost use Rattle.tables.specs.SessionFacts.{session_seen, session_legal};
 
     ghost home = { λ s. session_home s.table.now.options s.table.now.gates.items s.session.now.number s.session.ghost_name };
@@ -33,6 +33,8 @@ impl<'t, A: Allocator, P: Part<A> + Drop, R: Wait> Turns<A> for At<'t, P, A, R> 
     ghost is_ready = { λ s. IsOpened s.table.now.options s.table.now.gates.items s.session.now.number s.session.now.passes.items };
 
     ghost sees = { λ s. Sees s.session.now.passes.items };
+
+    ghost is_made = { λ s. true };
 
     ghost fits = { λ s ready. (ready.some, ready.session) };
 
@@ -74,10 +76,16 @@ impl<'t, A: Allocator, P: Part<A> + Drop, R: Wait> Turns<A> for At<'t, P, A, R> 
             (act_of op.old) (answer_in result) v w }
         ensures back { IfErr result (λ fault. op.new ≡ op.old) }
         ensures spent { OnOk result (object_in op.new ≡ None) }
-        ensures sure { IsTrue (takes_no_memory (act_of op.old))
+        ensures sure { IsTrue true → IsTrue (takes_no_memory (act_of op.old))
             → IfErr result (λ fault. fault ≢ Fault.Memory) }
     {
         self.session
             .turn(self.rt, &self.table.gates[usize::from(part)], part, op)
     }
+}
+
+impl<'t, A: Allocator, P: Part<A> + Drop, R: Wait> Turns<A> for At<'t, P, A, R> {
+    ghost use Rattle.std.specs.Prelude.{refl};
+
+    ghost sure = { λ s. refl };
 }

@@ -1,5 +1,5 @@
 //! Methods for the part of one key.
-ghost use Rattle.std.specs.Prelude.{◌≡◌, ◌≢◌, ◌<◌, ◌%◌, Some, None, IsTrue, false, MatchOption, IfOk, IfErr};
+ghost use Rattle.std.specs.Prelude.{◌≡◌, ◌≢◌, ◌<◌, ◌%◌, Some, None, IsTrue, IsFalse, false, MatchOption, IfOk, IfErr};
 ghost use Rattle.term_core.specs.KeyHash.{key_hash};
 ghost use Rattle.part_core.specs.Settings.{is_object, key_of, part_of};
 ghost use Rattle.part_core.specs.Acts.{IsAsked};
@@ -11,8 +11,9 @@ ghost use Rattle.tables.specs.Options.{settings_of};
 ghost use Rattle.tables.specs.Turns.{TurnedByKey, Follows};
 ghost use Rattle.tables.specs.Calls.{TurnedByObject, RefusedByObject};
 
+use crate::put_off::PutOff;
 use crate::replies::{done, flag, object_put, objects};
-use crate::turns::{Turns, turn_at};
+use crate::turns::{TryTurns, Turns, turn_at};
 use part_core::{Fault, PartOp, Reply, key_in};
 use std::alloc::{AllocError, Allocator};
 use term_core::{Refused, Term};
@@ -27,7 +28,7 @@ pub fn part_of_key<A: Allocator>(key: &Term<A>, parts: u8) -> u8
 }
 
 /// Returns the number of the part of an object's key, or `None` if the term is no object.
-fn part_of_object<A: Allocator, T: Turns<A>>(turns: &T, object: &Term<A>) -> Option<u8>
+fn part_of_object<A: Allocator, T: TryTurns<A>>(turns: &T, object: &Term<A>) -> Option<u8>
     requires { T.is_ready turns.now }
     ensures { MatchOption result (is_object (settings_of (T.home turns.now).options) object.now ≡ false)
         (λ part. IsTrue (is_object (settings_of (T.home turns.now).options) object.now)
@@ -42,7 +43,7 @@ fn part_of_object<A: Allocator, T: Turns<A>>(turns: &T, object: &Term<A>) -> Opt
 }
 
 /// Performs an operation at the part of a key, and returns the part's reply or fault.
-fn turn_by_key<'a, A: Allocator, T: Turns<A>>(
+fn turn_by_key<'a, A: Allocator, T: TryTurns<A>>(
     turns: &mut T,
     key: &Term<A>,
     op: PartOp<'a, A>,
@@ -53,7 +54,7 @@ fn turn_by_key<'a, A: Allocator, T: Turns<A>>(
     ensures same { T.home turns.new ≡ T.home turns.old }
     ensures entry { Follows (T.sees turns.old) (T.sees turns.new)
         (TurnedByKey (T.home turns.old) key.now (act_of op.entry) (answer_in result)) }
-    ensures sure { IsTrue (takes_no_memory (act_of op.entry))
+    ensures sure { IsTrue (T.is_made turns.new) → IsTrue (takes_no_memory (act_of op.entry))
         → IfErr result (λ fault. fault ≢ Fault.Memory) }
 {
     let parts = turns.options().parts;
@@ -61,8 +62,8 @@ fn turn_by_key<'a, A: Allocator, T: Turns<A>>(
 }
 
 /// Inserts an object; in a set it replaces the one with its key (ets:insert/2). Fails if the term is not a tuple with
-/// an element at the key's position, or if an allocation fails. The error hands the object back.
-pub fn insert<A: Allocator, T: Turns<A>>(
+/// an element at the key's position, if an allocation fails, or if the turn is put off. The error hands the object back.
+pub fn insert<A: Allocator, T: TryTurns<A>>(
     turns: &mut T,
     object: Term<A>,
 ) -> Result<(), Refused<Term<A>, Fault>>
@@ -88,7 +89,7 @@ pub fn insert<A: Allocator, T: Turns<A>>(
             drop(reply);
             Ok(())
         }
-        // An object can only be rejected because an allocation failed.
+        // An object can only be rejected because an allocation failed or the turn was put off.
         Err(_) => Err(Refused {
             value: object_put(op),
             fault: Fault::Memory,
@@ -97,9 +98,9 @@ pub fn insert<A: Allocator, T: Turns<A>>(
 }
 
 /// Inserts an object if its key has none, and returns whether it did (ets:insert_new/2); otherwise the object is
-/// dropped. Fails if the term is not a tuple with an element at the key's position, or if an allocation fails. The
-/// error hands the object back.
-pub fn insert_new<A: Allocator, T: Turns<A>>(
+/// dropped. Fails if the term is not a tuple with an element at the key's position, if an allocation fails, or if the
+/// turn is put off. The error hands the object back.
+pub fn insert_new<A: Allocator, T: TryTurns<A>>(
     turns: &mut T,
     object: Term<A>,
 ) -> Result<bool, Refused<Term<A>, Fault>>
@@ -131,8 +132,9 @@ pub fn insert_new<A: Allocator, T: Turns<A>>(
     }
 }
 
-/// Returns the objects of a key in the order of insertion (ets:lookup/2). Fails if an allocation fails.
-pub fn lookup<A: Allocator, T: Turns<A>>(
+/// Returns the objects of a key in the order of insertion (ets:lookup/2). Fails if an allocation fails or the turn is
+/// put off.
+pub fn lookup<A: Allocator, T: TryTurns<A>>(
     turns: &mut T,
     key: &Term<A>,
 ) -> Result<Vec<Term<A>, A>, AllocError>
@@ -151,8 +153,8 @@ pub fn lookup<A: Allocator, T: Turns<A>>(
 }
 
 /// Deletes the objects of a key, and returns them in the order of insertion (ets:take/2). Fails, with nothing deleted,
-/// if an allocation fails.
-pub fn take<A: Allocator, T: Turns<A>>(
+/// if an allocation fails or the turn is put off.
+pub fn take<A: Allocator, T: TryTurns<A>>(
     turns: &mut T,
     key: &Term<A>,
 ) -> Result<Vec<Term<A>, A>, AllocError>
@@ -211,4 +213,69 @@ pub fn delete_object<A: Allocator, T: Turns<A>>(
     };
     drop(done(turn_at(turns, part, PartOp::DeleteObject(object))));
     Ok(())
+}
+
+/// Returns whether a key has an object (ets:member/2). Fails, with nothing done, only if the turn is put off.
+pub fn try_member<A: Allocator, T: TryTurns<A>>(
+    turns: &mut T,
+    key: &Term<A>,
+) -> Result<bool, PutOff>
+    requires { T.is_ready turns.old }
+    ensures ready { T.is_ready turns.new }
+    ensures same { T.home turns.new ≡ T.home turns.old }
+    ensures done { IfOk result (λ found. Follows (T.sees turns.old) (T.sees turns.new)
+        (TurnedByKey (T.home turns.old) key.now (Member key.now) (Some (Replied (Flag found))))) }
+    ensures put_off { IfErr result (λ _. IsFalse (T.is_made turns.new) × Follows (T.sees turns.old) (T.sees turns.new)
+        (TurnedByKey (T.home turns.old) key.now (Member key.now) None)) }
+{
+    match turn_by_key(turns, key, PartOp::Member(key)) {
+        Ok(reply) => Ok(flag(reply)),
+        Err(_) => Err(PutOff),
+    }
+}
+
+/// Deletes the objects of a key (ets:delete/2). Fails, with nothing deleted, only if the turn is put off.
+pub fn try_delete<A: Allocator, T: TryTurns<A>>(turns: &mut T, key: &Term<A>) -> Result<(), PutOff>
+    requires { T.is_ready turns.old }
+    ensures ready { T.is_ready turns.new }
+    ensures same { T.home turns.new ≡ T.home turns.old }
+    ensures done { IfOk result (λ _. Follows (T.sees turns.old) (T.sees turns.new)
+        (TurnedByKey (T.home turns.old) key.now (Delete key.now) (Some (Replied Nothing)))) }
+    ensures put_off { IfErr result (λ _. IsFalse (T.is_made turns.new) × Follows (T.sees turns.old) (T.sees turns.new)
+        (TurnedByKey (T.home turns.old) key.now (Delete key.now) None)) }
+{
+    match turn_by_key(turns, key, PartOp::Delete(key)) {
+        Ok(reply) => {
+            drop(reply);
+            Ok(())
+        }
+        Err(_) => Err(PutOff),
+    }
+}
+
+/// Deletes the objects that are equal to the given one (ets:delete_object/2). Fails with `TooSmall` if the term is not a
+/// tuple with an element at the key's position, and with `Memory`, with nothing deleted, only if the turn is put off.
+pub fn try_delete_object<A: Allocator, T: TryTurns<A>>(
+    turns: &mut T,
+    object: &Term<A>,
+) -> Result<(), Fault>
+    requires { T.is_ready turns.old }
+    ensures ready { T.is_ready turns.new }
+    ensures same { T.home turns.new ≡ T.home turns.old }
+    ensures done { IfOk result (λ _. Follows (T.sees turns.old) (T.sees turns.new)
+        (TurnedByObject (T.home turns.old) object.now (DeleteObject object.now) (Some (Replied Nothing)))) }
+    ensures refused { IfErr result (λ fault. Follows (T.sees turns.old) (T.sees turns.new)
+        (RefusedByObject (T.home turns.old) object.now (DeleteObject object.now) fault)) }
+    ensures put_off { IfErr result (λ fault. fault ≡ Fault.Memory → IsFalse (T.is_made turns.new)) }
+{
+    let Some(part) = part_of_object(turns, object) else {
+        return Err(Fault::TooSmall);
+    };
+    match turn_at(turns, part, PartOp::DeleteObject(object)) {
+        Ok(reply) => {
+            drop(reply);
+            Ok(())
+        }
+        Err(_) => Err(Fault::Memory),
+    }
 }

@@ -1,21 +1,21 @@
 //! Methods for each part: counts of fixes.
-ghost use Rattle.std.specs.Prelude.{MatchBool, ℕ, ◌≡◌, ◌<◌, Some, IsTrue, IfOk, IfErr};
+ghost use Rattle.std.specs.Prelude.{MatchBool, ℕ, ◌≡◌, ◌<◌, ◌≤◌, Some, IsTrue, IsFalse, IfSome, IfOk, IfErr};
 ghost use Rattle.part_core.specs.Acts.Act.{Fix, Unfix, Release};
 ghost use Rattle.part_core.specs.Acts.Answer.{Replied};
 ghost use Rattle.part_core.specs.Acts.Said.{Nothing};
 ghost use Rattle.part_core.specs.Legal.{fix_count};
 ghost use Rattle.tables.specs.Turns.{Views, Turned, TurnedEach, Follows};
 ghost use Rattle.tables.specs.Calls.{is_granted, IsGranted, IsNotGranted, RefusedEach};
-ghost use Rattle.tables.specs.Fixing.{act_of_change};
+ghost use Rattle.tables.specs.Fixing.{act_of_change, reached, IsGrantedFrom, TurnedFrom};
 
 use crate::replies::done;
-use crate::turns::{Turns, turn_at};
+use crate::turns::{TryTurns, Turns, turn_at};
 use part_core::{Fault, PartOp};
 use std::alloc::Allocator;
 
 /// A change of a session's counts of fixes.
 #[derive(Clone, Copy)]
-pub(crate) enum Change {
+pub enum Change {
     /// One more fix.
     Fix,
     /// One fix less.
@@ -31,7 +31,7 @@ impl Change {
     ghost use Rattle.tables.specs.Fixing.{act_of_change};
 
     /// Returns whether the change can be made to a count: `Fix` below 65,535, `Unfix` above 0, `Release` always.
-    fn is_granted(self, count: u16) -> bool
+    pub fn is_granted(self, count: u16) -> bool
         ensures { result ≡ is_granted (act_of_change self) count }
     {
         match self {
@@ -54,7 +54,7 @@ impl Change {
 }
 
 /// Returns whether the change can be made at each part.
-fn is_granted<A: Allocator, T: Turns<A>>(turns: &T, change: Change) -> bool
+fn is_granted<A: Allocator, T: TryTurns<A>>(turns: &T, change: Change) -> bool
     requires { T.is_ready turns.now }
     ensures { (v : Views) → T.sees turns.now v → MatchBool result
         (IsGranted (T.home turns.now) (act_of_change change) v)
@@ -68,6 +68,35 @@ fn is_granted<A: Allocator, T: Turns<A>>(turns: &T, change: Change) -> bool
     true
 }
 
+/// Makes a change of fixes at the parts from one on, up to one whose turn is put off. Returns the number of that part,
+/// where the change goes on, or `None` if the change was made at all of them. The session's count at each must allow it.
+///
+/// `fix` is this change from 0 on, if no turn is put off. Between two calls the session must do nothing else that makes
+/// turns at several parts.
+pub fn change_from<A: Allocator, T: TryTurns<A>>(
+    turns: &mut T,
+    change: Change,
+    from: u8,
+) -> Option<u8>
+    requires ready { T.is_ready turns.old }
+    requires within { from ≤ (T.home turns.old).options.parts }
+    requires granted { (v : Views) → T.sees turns.old v → IsGrantedFrom (T.home turns.old) from change v }
+    ensures ready { T.is_ready turns.new }
+    ensures same { T.home turns.new ≡ T.home turns.old }
+    ensures turned { Follows (T.sees turns.old) (T.sees turns.new) (TurnedFrom (T.home turns.old) from
+        (reached (T.home turns.old).options result) (act_of_change change) (Some (Replied Nothing))) }
+    ensures put_off { IfSome result (λ part. (from ≤ part) × (part < (T.home turns.old).options.parts)
+        × IsFalse (T.is_made turns.new)) }
+{
+    for part in from..turns.options().parts {
+        match turn_at(turns, part, change.op()) {
+            Ok(reply) => drop(reply),
+            Err(_) => return Some(part),
+        }
+    }
+    None
+}
+
 /// Makes the change at each part. The session's count at each must allow it.
 fn change_each<A: Allocator, T: Turns<A>>(turns: &mut T, change: Change)
     requires ready { T.is_ready turns.old }
@@ -77,9 +106,7 @@ fn change_each<A: Allocator, T: Turns<A>>(turns: &mut T, change: Change)
     ensures done { Follows (T.sees turns.old) (T.sees turns.new)
         (TurnedEach (T.home turns.old) (act_of_change change) (Some (Replied Nothing))) }
 {
-    for part in 0..turns.options().parts {
-        drop(done(turn_at(turns, part, change.op())));
-    }
+    let _end = change_from(turns, change, 0);
 }
 
 /// Fixes the table once more (ets:safe_fixtable/2), at each part. If the session's count at some part is 65,535, fails

@@ -1,5 +1,5 @@
 //! Tables on one thread.
-ghost use Rattle.std.specs.Prelude.{ℕ, not, ◌&&◌, ◌==◌, ◌≡◌, ◌≢◌, ◌<◌, None, IsTrue, IfErr, OnOk, All, IfOk, IsErrOf, MatchOption, Some, [], ◌∷◌, ◌++◌, length, slice_get};
+ghost use Rattle.std.specs.Prelude.{ℕ, not, ◌&&◌, ◌==◌, ◌≡◌, ◌≢◌, ◌<◌, None, true, IsTrue, IfErr, OnOk, All, IfOk, IsErrOf, MatchOption, Some, [], ◌∷◌, ◌++◌, length, slice_get};
 ghost use Rattle.part_core.specs.Acts.{IsAsked};
 ghost use Rattle.part_core.specs.Acts.Act.{Release};
 ghost use Rattle.part_core.specs.Acts.Answer.{Replied};
@@ -15,7 +15,7 @@ ghost use Rattle.tables.specs.Turns.{Views, Follows, Turned, TurnedEach};
 use crate::fixing::release;
 use crate::opening::{is_split_order, made};
 use crate::options::Options;
-use crate::turns::Turns;
+use crate::turns::{TryTurns, Turns};
 use part_core::{Fault, OpenFault, Part, PartOp, Reply};
 use std::alloc::{AllocError, Allocator, Global};
 use term_core::Term;
@@ -125,7 +125,7 @@ pub struct LocalAt<'t, P: Part<A> + Drop, A: Allocator = Global> {
     pub number: u8,
 }
 
-impl<'t, A: Allocator, P: Part<A> + Drop> Turns<A> for LocalAt<'t, P, A> {
+impl<'t, A: Allocator, P: Part<A> + Drop> TryTurns<A> for LocalAt<'t, P, A> {
     ghost use Rattle.tables.specs.LocalFacts.{local_legal};
 
     ghost home = { λ s. local_home s.table.now.options s.number s.table.ghost_name };
@@ -133,6 +133,8 @@ impl<'t, A: Allocator, P: Part<A> + Drop> Turns<A> for LocalAt<'t, P, A> {
     ghost is_ready = { λ s. s.number < s.table.now.options.sessions };
 
     ghost sees = { λ s. AreAfter P.is_after s.table.now.parts.items };
+
+    ghost is_made = { λ s. true };
 
     ghost fits = { λ s ready. (s.table.now.some, ready) };
 
@@ -174,11 +176,17 @@ impl<'t, A: Allocator, P: Part<A> + Drop> Turns<A> for LocalAt<'t, P, A> {
             (act_of op.old) (answer_in result) v w }
         ensures back { IfErr result (λ fault. op.new ≡ op.old) }
         ensures spent { OnOk result (object_in op.new ≡ None) }
-        ensures sure { IsTrue (takes_no_memory (act_of op.old))
+        ensures sure { IsTrue true → IsTrue (takes_no_memory (act_of op.old))
             → IfErr result (λ fault. fault ≢ Fault.Memory) }
     {
         self.table.turn(self.number, part, op)
     }
+}
+
+impl<'t, A: Allocator, P: Part<A> + Drop> Turns<A> for LocalAt<'t, P, A> {
+    ghost use Rattle.std.specs.Prelude.{refl};
+
+    ghost sure = { λ s. refl };
 }
 
 /// The parts of a table that was closed.

@@ -7,6 +7,7 @@ ghost use Rattle.tables.specs.Sessions.{IsOpened, Sees};
 ghost use Rattle.tables.specs.Turns.{Views};
 
 use crate::at::At;
+use crate::brief::{BriefAt, Halt};
 use crate::fixing::release;
 use crate::opening::{gated, is_split_order, made};
 use crate::options::Options;
@@ -84,6 +85,29 @@ impl<P: Part<A> + Drop, A: Allocator> Table<P, A> {
             table: self,
             session,
             rt,
+        }
+    }
+
+    /// Returns a session at the table that waits for no part: it looks for a part `looks` times in a turn, at least once,
+    /// and makes at most `turns` turns.
+    pub fn brief_at<'t>(
+        &'t self,
+        session: &'t mut Session<P, A>,
+        looks: u64,
+        turns: u64,
+    ) -> BriefAt<'t, P, A>
+        requires { IsOpened self.now.options self.now.gates.items session.old.number session.old.passes.items }
+        ensures table { result.table.now ≡ self.now }
+        ensures same_reference { result.session.ghost_name ≡ session.entry.ghost_name }
+        ensures session { result.session.now ≡ session.old }
+        ensures bounds { (result.looks ≡ looks) × (result.left ≡ turns) }
+    {
+        BriefAt {
+            table: self,
+            session,
+            looks,
+            left: turns,
+            halt: Halt::Nothing,
         }
     }
 

@@ -10,6 +10,7 @@
 //! - `watching`: parts that wait for each other, so that their turns must be made at the same time. `waiting`: a
 //!   session that sleeps until a part is put back; `sleeping`: which thread sleeps, as the system reports it.
 //! - `walking`: a walk whose table another session empties meanwhile, and a visit with a cursor outside its range.
+//! - `asking`: sessions that wait for no part, while another one has it.
 //! - `leaving`: dead rows while sessions fix, and when the last of them leaves.
 //! - With each allocation failing in turn: `trials`, what a session does at a table that is opened for it, and what
 //!   becomes of the table; `refusals`, openings, an insert, and calls that never allocate; `putting`, objects inserted
@@ -18,6 +19,8 @@
 
 #[cfg(test)]
 mod acts;
+#[cfg(test)]
+mod asking;
 #[cfg(test)]
 mod closing;
 #[cfg(test)]

@@ -17,7 +17,7 @@ use std::thread::{Threads, join};
 use tables::{Options, Session, Table};
 
 /// A set of one part and two sessions.
-const OPTIONS: Options = Options {
+pub(crate) const OPTIONS: Options = Options {
     name: 1,
     kind: TableKind::Set,
     keypos: 1,
@@ -26,7 +26,7 @@ const OPTIONS: Options = Options {
 };
 
 /// Returns one part, which sets a flag when it is taken out, and keeps its session until another one sleeps.
-fn kept_part<R: Abort, P: Part<Global> + Drop>(
+pub(crate) fn kept_part<R: Abort, P: Part<Global> + Drop>(
     rt: &R,
     alloc: Global,
     options: Options,

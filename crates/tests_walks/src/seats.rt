@@ -3,7 +3,7 @@ use kit_members::is_raised;
 use part_core::{Fault, PartOp, Reply};
 use std::alloc::Allocator;
 use std::sync::atomic::{AtomicBool, Ordering};
-use tables::{Options, Turns};
+use tables::{Options, TryTurns, Turns};
 
 /// A session that sets a flag once it has made a turn.
 #[derive(Drop)]
@@ -18,12 +18,14 @@ pub(crate) struct Seat<'f, T> {
     pub(crate) is_alone: bool,
 }
 
-impl<'f, A: Allocator, T: Turns<A>> Turns<A> for Seat<'f, T> {
+impl<'f, A: Allocator, T: TryTurns<A>> TryTurns<A> for Seat<'f, T> {
     ghost home = { λ s. T.home s.turns };
 
     ghost is_ready = { λ s. T.is_ready s.turns };
 
     ghost sees = { λ s. T.sees s.turns };
+
+    ghost is_made = { λ s. T.is_made s.turns };
 
     ghost fits = { λ s. T.fits s.turns };
 
@@ -52,4 +54,8 @@ impl<'f, A: Allocator, T: Turns<A>> Turns<A> for Seat<'f, T> {
         self.flag.store(true, Ordering::SeqCst);
         answered
     }
+}
+
+impl<'f, A: Allocator, T: Turns<A>> Turns<A> for Seat<'f, T> {
+    ghost sure = { λ s. T.sure s.turns };
 }

@@ -8,6 +8,7 @@ mod WalkLemmas
 mod TableLemmas
 mod OptionLemmas
 mod ContinuationLemmas
+mod CallLawLemmas
 mod CourseLemmas
 mod ScriptLemmas
 mod SelectLemmas

@@ -19,5 +19,6 @@ pub mod Line
 pub mod Shell
 pub mod Shells
 pub mod Engine
+pub mod CallLaws
 pub mod Laws
 pub mod Prompt

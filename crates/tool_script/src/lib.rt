@@ -7,7 +7,7 @@
 //!
 //! - `command`: the commands in memory (`specs/Commands.antt`), and how they are read from terms
 //!   (`specs/Reading.antt`); `command_laws`: different commands have different terms (`command_term` of
-//!   `specs/Command.antt`).
+//!   `specs/Command.antt`), and the reply to a request is what the call of a table returns (`specs/CallLaws.antt`).
 //! - A command goes this way: `run` reads it from its term; `script` obeys it, and forwards a session's request to the
 //!   open table; `open` admits the session; `session` performs the call. `specs/Scripts.antt`, `Opened.antt` and
 //!   `State.antt` say which state each is in.
@@ -39,7 +39,7 @@ mod shell;
 mod walk;
 
 pub use command::{Ask, Command, Selection, read_command};
-pub use command_laws::terms_tell_commands;
+pub use command_laws::{a_call_is_a_command, terms_tell_commands};
 pub use engine::{Engine, Halt};
 pub use laws::{a_script_is_a_shell, lines_are_a_script, replies_are_one, shell_output_is_one};
 pub use prompt::run_prompt;

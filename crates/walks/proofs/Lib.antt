@@ -21,4 +21,5 @@ pub mod DoneLemmas
 pub mod NamedDone
 pub mod AnewLemmas
 pub mod DeletedLemmas
+mod PieceCounts
 mod WorkedRows

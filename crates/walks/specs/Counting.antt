@@ -4,7 +4,7 @@ use Rattle.term_core.specs.Datum.{Datum}
 use Rattle.part_core.specs.Replies.{most_counted}
 use Rattle.tables.specs.Turns.{Home, Views}
 use Rattle.walk_core.specs.Goes.{way, whole, Visits, Goes, Stops}
-use Rattle.walk_core.specs.Moments.{span, Gathers, ArePlaced}
+use Rattle.walk_core.specs.Moments.{Span, span, Gathers, IsSoFar, ArePlaced}
 use Rattle.walk_core.specs.Once.{IsOnce}
 use Rattle.walk_core.specs.Walk.{Walk, Position, is_done}
 use Rattle.walks.specs.Whole.{Wholly, Finishes}
@@ -37,3 +37,10 @@ GivesUpCount h w count v u =
     (at : Position) × (found : List Datum) × IsCount count found × Wholly h w whole at found v u
     × IsOnce w (span v u ∷ []) u (is_done w at)
     × (ArePlaced h.options u → Gathers w (span v u ∷ []) u (is_done w at) found)
+
+-- A walk that counts, so far: the number is the count of what its visits found, which is gathered for the keys that are
+-- done.
+pub record CountsSoFar (w : Walk) (calls : List Span) (now : Views) (at : Position) (number : ℕ) : Type 0 where
+  pub found : List Datum
+  pub so_far : IsSoFar w calls found now at []
+  pub count : IsCount number found

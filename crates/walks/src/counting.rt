@@ -17,7 +17,7 @@ ghost use Rattle.walks.specs.Visits.{is_counted};
 use crate::position::{move_on, next_visit};
 use part_core::{Cursor, Fault, Reply, Scope};
 use std::alloc::Allocator;
-use tables::{Turns, turn_at};
+use tables::{TryTurns, turn_at};
 use verifier::Verified;
 use walk_core::{Counting, Position, count_op};
 use walk_query::Query;
@@ -36,7 +36,7 @@ fn counted<A: Allocator>(reply: Reply<A>) -> (u64, Option<Cursor<A>>)
 
 /// Makes a visit that counts or deletes at a part. Returns the number, and where the walk goes on. Fails if the cursor
 /// isn't the part's or an allocation fails.
-fn count_at<A: Allocator, T: Turns<A>>(
+fn count_at<A: Allocator, T: TryTurns<A>>(
     turns: &mut T,
     counting: Counting,
     part: u8,
@@ -62,7 +62,7 @@ fn count_at<A: Allocator, T: Turns<A>>(
 
 /// Makes the next visit of a walk that counts or deletes, and returns the number. If it fails, the position is
 /// unchanged.
-fn count_next<A: Allocator, T: Turns<A>>(
+fn count_next<A: Allocator, T: TryTurns<A>>(
     turns: &mut T,
     query: &Query<A>,
     counting: Counting,
@@ -94,9 +94,10 @@ fn capped_sum(total: u64, count: u64) -> u64
     total.saturating_add(count)
 }
 
-/// Makes visits from the walk's position to its end, and adds what they count to `total`. If a visit fails, `at` and
-/// `total` are those up to then. Fails with `Memory` also after 2^64 - 1 visits.
-pub(crate) fn count_on<A: Allocator, T: Turns<A>>(
+/// Makes visits from the walk's position to its end, and adds what they count to `total`, which is 0 before. If a visit
+/// fails or is put off, `at` and `total` are those up to then, and a further call goes on from there: by the law
+/// `counts_stop` the numbers of the calls add up to that of one walk. Fails with `Memory` also after 2^64 - 1 visits.
+pub fn count_on<A: Allocator, T: TryTurns<A>>(
     turns: &mut T,
     query: &Query<A>,
     counting: Counting,

@@ -10,7 +10,7 @@ ghost use Rattle.walks.specs.Keys.{is_at_key};
 
 use part_core::{Fault, PartOp, Reply};
 use std::alloc::{AllocError, Allocator};
-use tables::{Turns, part_of_key, turn_at};
+use tables::{TryTurns, part_of_key, turn_at};
 use term_core::Term;
 
 /// Returns the key of a reply, or `None` at the end.
@@ -34,7 +34,7 @@ fn first_op<'a, A: Allocator>() -> PartOp<'a, A>
 }
 
 /// Returns the first key of a part that has objects, or `None`. Fails if an allocation fails.
-fn first_at<A: Allocator, T: Turns<A>>(
+pub fn first_at<A: Allocator, T: TryTurns<A>>(
     turns: &mut T,
     part: u8,
 ) -> Result<Option<Term<A>>, AllocError>
@@ -54,7 +54,7 @@ fn first_at<A: Allocator, T: Turns<A>>(
 }
 
 /// Returns the first key of the parts from `from` on that has objects, or `None`. Fails if an allocation fails.
-fn first_from<A: Allocator, T: Turns<A>>(
+fn first_from<A: Allocator, T: TryTurns<A>>(
     turns: &mut T,
     from: u8,
 ) -> Result<Option<Term<A>>, AllocError>
@@ -77,7 +77,7 @@ fn first_from<A: Allocator, T: Turns<A>>(
 
 /// Returns the key after another in its part that has objects, or `None` at the part's end. Fails if the key has no row
 /// in a set, or if an allocation fails.
-fn next_at<A: Allocator, T: Turns<A>>(
+pub fn next_at<A: Allocator, T: TryTurns<A>>(
     turns: &mut T,
     part: u8,
     key: &Term<A>,
@@ -97,7 +97,7 @@ fn next_at<A: Allocator, T: Turns<A>>(
 
 /// Returns the first key in walk order, or `None` for a table without objects (ets:first/1). Makes a turn at each part
 /// until one has a key. Fails if an allocation fails.
-pub fn first<A: Allocator, T: Turns<A>>(turns: &mut T) -> Result<Option<Term<A>>, AllocError>
+pub fn first<A: Allocator, T: TryTurns<A>>(turns: &mut T) -> Result<Option<Term<A>>, AllocError>
     requires { T.is_ready turns.old }
     ensures ready { T.is_ready turns.new }
     ensures same { T.home turns.new ≡ T.home turns.old }
@@ -112,7 +112,7 @@ pub fn first<A: Allocator, T: Turns<A>>(turns: &mut T) -> Result<Option<Term<A>>
 /// Returns the key after another in walk order that has objects, or `None` at the end (ets:next/2). In a set the other
 /// key must have a row, dead or live; otherwise fails with `BadKey`. In an ordered set it can be any term. Also fails
 /// if an allocation fails.
-pub fn next<A: Allocator, T: Turns<A>>(
+pub fn next<A: Allocator, T: TryTurns<A>>(
     turns: &mut T,
     key: &Term<A>,
 ) -> Result<Option<Term<A>>, Fault>

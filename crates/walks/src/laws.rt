@@ -1,6 +1,6 @@
-//! Laws of walks on one thread, each the contract of a function that does nothing.
+//! Laws of walks on one thread, and of walks that count in pieces, each the contract of a function that does nothing.
 ghost use Rattle.walks.specs.Alone.{StepsArePieces, WholeWalksSelect, WholeWalksCount, WholeWalksRemove};
-ghost use Rattle.walks.specs.Laws.{WholeWalksGoInOrder};
+ghost use Rattle.walks.specs.Laws.{WholeWalksGoInOrder, CountsBegin, CountsGoOn, CountsStop, CountsOutlastOthers, CountsEnd};
 
 use std::alloc::Allocator;
 
@@ -28,4 +28,29 @@ pub fn whole_walks_count<A: Allocator>()
 /// and leaves the table without them.
 pub fn whole_walks_remove<A: Allocator>()
     ensures { WholeWalksRemove A }
+{}
+
+/// A walk that counts and begins has counted nothing.
+pub fn counts_begin()
+    ensures { CountsBegin }
+{}
+
+/// More visits add what they count.
+pub fn counts_go_on()
+    ensures { CountsGoOn }
+{}
+
+/// Visits add what they count also if the one after them ran out of memory or was put off.
+pub fn counts_stop()
+    ensures { CountsStop }
+{}
+
+/// What other sessions do, and other calls of the session, doesn't change what was counted.
+pub fn counts_outlast_others()
+    ensures { CountsOutlastOthers }
+{}
+
+/// At its end a walk in pieces has counted what one walk answers.
+pub fn counts_end()
+    ensures { CountsEnd }
 {}

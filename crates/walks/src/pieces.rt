@@ -3,8 +3,9 @@ ghost use Rattle.std.specs.Prelude.{ℕ, ◌≡◌, ◌≢◌, ◌<◌, ◌++◌
 ghost use Rattle.part_core.specs.Acts.Purpose.{Answers};
 ghost use Rattle.tables.specs.Turns.{Follows};
 ghost use Rattle.walk_core.specs.Positions.{position_of};
+ghost use Rattle.walk_core.specs.Walk.{start_of};
 ghost use Rattle.walks.specs.Asked.{GoesUpTo, IsForeign, StopsSelecting, StopsUpTo};
-ghost use Rattle.walks.specs.Query.{IsWithin, kept_of};
+ghost use Rattle.walks.specs.Query.{IsWithin, kept_of, walk_of};
 ghost use Rattle.walks.specs.Pieces.{IsOwn, IsPiece, IsWalkOf, IsStepOf, Steps, Begins, Continues, Keeps};
 
 use crate::continuation::{Continuation, Step};
@@ -14,7 +15,7 @@ use crate::position::{named_count, start};
 use crate::visit::visit_up_to;
 use part_core::Fault;
 use std::alloc::Allocator;
-use tables::Turns;
+use tables::TryTurns;
 use term_core::{Refused, Term};
 use walk_core::Position;
 use walk_query::Query;
@@ -48,7 +49,7 @@ fn step_of<A: Allocator>(walk: Continuation<A>, piece: Vec<Term<A>, A>) -> Step<
 /// Makes visits until there are `limit` answers, or the walk is at its end, and returns at most `limit` answers. Fails
 /// if an allocation fails, or with `StrangerContinuation` if the walk can't be at its position here. `at` and `kept`
 /// are then those up to the failure.
-pub(crate) fn next_piece<A: Allocator + Copy, T: Turns<A>>(
+pub(crate) fn next_piece<A: Allocator + Copy, T: TryTurns<A>>(
     alloc: A,
     turns: &mut T,
     query: &Query<A>,
@@ -81,7 +82,7 @@ pub(crate) fn next_piece<A: Allocator + Copy, T: Turns<A>>(
 
 /// Makes visits until a piece can be returned, or the walk is at its end. An error hands the walk back, with the visits
 /// that were made and what they found.
-fn go_on<A: Allocator + Copy, T: Turns<A>>(
+fn go_on<A: Allocator + Copy, T: TryTurns<A>>(
     alloc: A,
     turns: &mut T,
     walk: Continuation<A>,
@@ -144,9 +145,35 @@ fn is_own<A: Allocator>(walk: &Continuation<A>, table: u64, session: u8) -> bool
     walk.table == table && walk.session == session
 }
 
+/// Returns a walk in pieces of at most `limit` answers each at its beginning, with no visit made yet, which `select_next`
+/// continues. The limit must be at least 1. It is for sessions whose turns may be put off: what `select_next` finds before
+/// a visit that is put off is kept in the walk, where `select_first` forgets it.
+pub fn walk_begun<A: Allocator + Copy, T: TryTurns<A>>(
+    alloc: A,
+    turns: &T,
+    query: Query<A>,
+    limit: u64,
+) -> Continuation<A>
+    requires some { 0 < limit }
+    ensures walk { IsWalkOf (T.home turns.now) query limit result }
+    ensures start { position_of result.at ≡ start_of (walk_of (T.home turns.now) Answers query) }
+    ensures within { IsWithin (T.home turns.now).options result.query result.at }
+    ensures none { kept_of result.kept ≡ [] }
+{
+    let at = start(turns, &query);
+    Continuation {
+        query,
+        table: turns.options().name,
+        session: turns.number(),
+        limit,
+        at,
+        kept: Kept::new(alloc),
+    }
+}
+
 /// Begins a walk in pieces of at most `limit` answers each. The limit must be at least 1: for callers that have checked
 /// it, unlike `select_limit`. If an allocation fails, the error hands the query back.
-pub fn select_first<A: Allocator + Copy, T: Turns<A>>(
+pub fn select_first<A: Allocator + Copy, T: TryTurns<A>>(
     alloc: A,
     turns: &mut T,
     query: Query<A>,
@@ -162,15 +189,7 @@ pub fn select_first<A: Allocator + Copy, T: Turns<A>>(
         × Follows (T.sees turns.old) (T.sees turns.new) (StopsSelecting (T.home turns.old) query limit)) }
     ensures back { IfErr result (λ refused. refused.value ≡ query) }
 {
-    let at = start(turns, &query);
-    let walk = Continuation {
-        query,
-        table: turns.options().name,
-        session: turns.number(),
-        limit,
-        at,
-        kept: Kept::new(alloc),
-    };
+    let walk = walk_begun(alloc, turns, query, limit);
     match go_on(alloc, turns, walk) {
         Ok(step) => Ok(step),
         Err(refused) => Err(query_refused(refused)),
@@ -179,7 +198,7 @@ pub fn select_first<A: Allocator + Copy, T: Turns<A>>(
 
 /// Begins a walk in pieces of at most `limit` answers each (ets:select/3). A limit of 0 is rejected with `BadLimit`
 /// before any turn. Also fails if an allocation fails. The error hands the query back.
-pub fn select_limit<A: Allocator + Copy, T: Turns<A>>(
+pub fn select_limit<A: Allocator + Copy, T: TryTurns<A>>(
     alloc: A,
     turns: &mut T,
     query: Query<A>,
@@ -208,7 +227,7 @@ pub fn select_limit<A: Allocator + Copy, T: Turns<A>>(
 /// Continues a walk in pieces that was begun by this session at this table: for callers that know this, unlike
 /// `select_more`. Fails if an allocation fails, or if the walk can't be at its position here. The error hands the walk
 /// back, with the visits that were made and what they found.
-pub fn select_next<A: Allocator + Copy, T: Turns<A>>(
+pub fn select_next<A: Allocator + Copy, T: TryTurns<A>>(
     alloc: A,
     turns: &mut T,
     walk: Continuation<A>,
@@ -239,7 +258,7 @@ pub fn select_next<A: Allocator + Copy, T: Turns<A>>(
 /// Continues a walk in pieces (ets:select/1). A walk of another table or session is rejected with
 /// `StrangerContinuation` before any turn. Also fails if an allocation fails. The error hands the walk back, with the
 /// visits that were made and what they found.
-pub fn select_more<A: Allocator + Copy, T: Turns<A>>(
+pub fn select_more<A: Allocator + Copy, T: TryTurns<A>>(
     alloc: A,
     turns: &mut T,
     walk: Continuation<A>,

@@ -9,13 +9,13 @@ ghost use Rattle.walks.specs.Query.{IsWithin, plan_of, walk_of};
 
 use part_core::{Cursor, Scope};
 use std::alloc::Allocator;
-use tables::{Turns, part_of_key};
+use tables::{TryTurns, part_of_key};
 use term_core::Term;
 use walk_core::{Position, after_key, at_key, at_part, behind, scope_from};
 use walk_query::Query;
 
 /// Returns how many named keys a walk with a query visits, or 0 if it visits parts.
-pub(crate) fn named_count<A: Allocator, T: Turns<A>>(turns: &T, query: &Query<A>) -> usize
+pub fn named_count<A: Allocator, T: TryTurns<A>>(turns: &T, query: &Query<A>) -> usize
     ensures { result ≡ named_count (plan_of query.now (T.home turns.now).options) }
 {
     let options = turns.options();
@@ -26,7 +26,7 @@ pub(crate) fn named_count<A: Allocator, T: Turns<A>>(turns: &T, query: &Query<A>
 }
 
 /// Returns the key with a number among those that a walk with a query visits.
-fn named_at<'q, A: Allocator, T: Turns<A>>(
+fn named_at<'q, A: Allocator, T: TryTurns<A>>(
     turns: &T,
     query: &'q Query<A>,
     number: usize,
@@ -43,7 +43,7 @@ fn named_at<'q, A: Allocator, T: Turns<A>>(
 
 /// Returns the position where a walk with a query begins: at the first named key, if keys are named, else at the first
 /// part.
-pub(crate) fn start<A: Allocator, T: Turns<A>>(turns: &T, query: &Query<A>) -> Position<A>
+pub fn start<A: Allocator, T: TryTurns<A>>(turns: &T, query: &Query<A>) -> Position<A>
     ensures at { position_of result
         ≡ start_by (plan_of query.now (T.home turns.now).options) 0 (T.home turns.now).options.parts }
     ensures within { IsWithin (T.home turns.now).options query.now result }
@@ -56,7 +56,7 @@ pub(crate) fn start<A: Allocator, T: Turns<A>>(turns: &T, query: &Query<A>) -> P
 }
 
 /// Returns the part of the next visit of a walk, and what the visit looks at. The walk must not be at its end.
-pub(crate) fn next_visit<'q, A: Allocator, T: Turns<A>>(
+pub(crate) fn next_visit<'q, A: Allocator, T: TryTurns<A>>(
     turns: &T,
     query: &'q Query<A>,
     at: &'q Position<A>,
@@ -81,7 +81,7 @@ pub(crate) fn next_visit<'q, A: Allocator, T: Turns<A>>(
 }
 
 /// Returns the position after the visit at a position; `next` is the cursor that the visit returned.
-fn after_visit<A: Allocator, T: Turns<A>>(
+fn after_visit<A: Allocator, T: TryTurns<A>>(
     turns: &T,
     query: &Query<A>,
     at: &Position<A>,
@@ -100,7 +100,7 @@ fn after_visit<A: Allocator, T: Turns<A>>(
 }
 
 /// Moves the position on after a visit that returned the cursor `next`.
-pub(crate) fn move_on<A: Allocator, T: Turns<A>>(
+pub(crate) fn move_on<A: Allocator, T: TryTurns<A>>(
     turns: &T,
     query: &Query<A>,
     at: &mut Position<A>,

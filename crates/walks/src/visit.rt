@@ -17,7 +17,7 @@ use crate::kept::Kept;
 use crate::position::{move_on, next_visit};
 use part_core::{Cursor, Fault, Look, PartOp, Reply, Scope};
 use std::alloc::Allocator;
-use tables::{Turns, turn_at};
+use tables::{TryTurns, turn_at};
 use term_core::Term;
 use verifier::Verified;
 use walk_core::Position;
@@ -37,7 +37,7 @@ fn found<A: Allocator>(reply: Reply<A>) -> (Vec<Term<A>, A>, Option<Cursor<A>>)
 
 /// Makes a visit at a part, with a target of `wanted` answers. Returns the answers, and where the walk goes on. Fails
 /// if the cursor isn't the part's or an allocation fails.
-fn visit_at<A: Allocator, T: Turns<A>>(
+fn visit_at<A: Allocator, T: TryTurns<A>>(
     turns: &mut T,
     part: u8,
     code: &Verified<A>,
@@ -67,7 +67,7 @@ fn visit_at<A: Allocator, T: Turns<A>>(
 
 /// Makes the next visit of a walk, with a target of `wanted` answers, and keeps what it finds. If it fails, `at` and
 /// `kept` are unchanged.
-pub(crate) fn visit_next<A: Allocator, T: Turns<A>>(
+pub(crate) fn visit_next<A: Allocator, T: TryTurns<A>>(
     turns: &mut T,
     query: &Query<A>,
     wanted: u64,
@@ -99,7 +99,7 @@ pub(crate) fn visit_next<A: Allocator, T: Turns<A>>(
 
 /// Makes visits until there are `limit` answers, or the walk is at its end. If a visit fails, `at` and `kept` are those
 /// up to then. Fails with `Memory` also after 2^64 - 1 visits.
-pub(crate) fn visit_up_to<A: Allocator, T: Turns<A>>(
+pub(crate) fn visit_up_to<A: Allocator, T: TryTurns<A>>(
     turns: &mut T,
     query: &Query<A>,
     limit: u64,

@@ -3,4 +3,4 @@ use Rattle.bench.proofs.calls.in_pieces.Given as goal
 
 abbrev pub invariant-loop-piece : goal.invariant-loop-piece
 invariant-loop-piece g l =
-    g.T.Turns.is_ready l.session × (g.T.Turns.home l.session ≡ g.T.Turns.home l.initial.session)
+    g.T.TryTurns.is_ready l.session × (g.T.TryTurns.home l.session ≡ g.T.TryTurns.home l.initial.session)

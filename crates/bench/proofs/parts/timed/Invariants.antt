@@ -4,5 +4,5 @@ use Rattle.bench.proofs.parts.timed.Given as goal
 
 abbrev pub invariant-loop-round : goal.invariant-loop-round
 invariant-loop-round g l =
-    g.T.Turns.is_ready l.turns × (g.T.Turns.home l.turns ≡ g.T.Turns.home l.initial.turns)
-    × AreMembers g.M.Turns.is_ready g.M.Turns.home l.members
+    g.T.TryTurns.is_ready l.turns × (g.T.TryTurns.home l.turns ≡ g.T.TryTurns.home l.initial.turns)
+    × AreMembers g.M.TryTurns.is_ready g.M.TryTurns.home l.members

@@ -1,4 +1,4 @@
-use Rattle.tables.proofs.OpenedLemmas.{all_opened, front_opened, last_opened}
+use Rattle.ets.proofs.OpenedLemmas.{all_opened, front_opened, last_opened}
 use Rattle.example.proofs.threads.objects_left.Goals as goal
 
 pub work_all-requires-after_bounds : goal.work_all-requires-after_bounds

@@ -1,5 +1,5 @@
 use denote.Param.Send.{sendable}
-use Rattle.part_hash.proofs.SendLemmas.{hash_part_send}
+use Rattle.ets.proofs.SendLemmas.{hash_part_send}
 use Rattle.example.proofs.threads.write_line.Goals as goal
 
 pub objects_left-requires-send-P : goal.objects_left-requires-send-P

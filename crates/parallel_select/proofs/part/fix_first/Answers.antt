@@ -6,4 +6,4 @@ use Rattle.parallel_select.proofs.part.fix_first.Goals as goal
 
 pub fix_at-requires-clause-granted : goal.fix_at-requires-clause-granted
 fix_at-requires-clause-granted g c =
-    ∥∥₁_map (g.met.T.Turns.seen c.args.turns.now c.requires.ready) (λ s. (s.0, s.1, lt-ltb _ most_fixes (subst (λ (n : _). n < most_fixes) (sym c.if-fixes-eq0.true ∙ c.fixes.ensures s.0 s.1) (omega arith))))
+    ∥∥₁_map (g.met.T.TryTurns.seen c.args.turns.now c.requires.ready) (λ s. (s.0, s.1, lt-ltb _ most_fixes (subst (λ (n : _). n < most_fixes) (sym c.if-fixes-eq0.true ∙ c.fixes.ensures s.0 s.1) (omega arith))))

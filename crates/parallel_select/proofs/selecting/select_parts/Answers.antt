@@ -10,4 +10,4 @@ returns-in-Ok-join_lists-clause-done g c =
 
 pub returns-in-Err-join_lists-clause-refused : goal.returns-in-Err-join_lists-clause-refused
 returns-in-Err-join_lists-clause-refused g c other =
-    rest_broken g.T.Turns.is_ready g.T.Turns.home g.T.Turns.sees c.args.query.now (length c.args.members.now) 0 (map vec_items c.in-Ok.lists.items) c.args.members.now c.answer_parts_of.new.members c.in-Ok.ensures.done
+    rest_broken g.T.TryTurns.is_ready g.T.TryTurns.home g.T.TryTurns.sees c.args.query.now (length c.args.members.now) 0 (map vec_items c.in-Ok.lists.items) c.args.members.now c.answer_parts_of.new.members c.in-Ok.ensures.done

@@ -23,13 +23,13 @@ use Rattle.parallel_select.proofs.visits.visit_keys.Goals as goal
 
 pub loop-number-init : goal.loop-number-init
 loop-number-init g c =
-    let h = g.T.Turns.home c.args.turns.now in
+    let h = g.T.TryTurns.home c.args.turns.now in
     let q = c.args.query.now in
     let w = part_walk h (purpose_of c.args.asking) q c.args.part in
     let p = stands_in h.options c.args.part in
     let ks = filter p c.args.keys.now in
     let begins = starts_named w ks (named_plan h.options c.args.part (plan_of q h.options) c.args.keys.now c.requires.named) ∙ ap (λ n. at_key n (length ks)) (sym (none_yet p c.args.keys.now)) in
-    (c.requires.ready, refl, c.requires.purpose, gains_nothing h w (start_of w) (at_key (count_first p 0 c.args.keys.now) (length ks)) c.args.gained.now (g.T.Turns.sees c.args.turns.now) begins)
+    (c.requires.ready, refl, c.requires.purpose, gains_nothing h w (start_of w) (at_key (count_first p 0 c.args.keys.now) (length ks)) c.args.gained.now (g.T.TryTurns.sees c.args.turns.now) begins)
 
 -- whether a key is in the part, given the part's number
 stands : (k : Datum) (options : Options) (o : Options) (part found : ℕ) → o ≡ options → found ≡ key_hash k % o.parts → found ≡ part → part_of (settings_of options) k ≡ part
@@ -59,7 +59,7 @@ taken options o part found n keys looked key within looked_is key_is same found_
 
 pub loop-number-preserved-then-part_of_key-part : goal.loop-number-preserved-then-part_of_key-part
 loop-number-preserved-then-part_of_key-part g c =
-    let h = g.T.Turns.home c.args.turns.now in
+    let h = g.T.TryTurns.home c.args.turns.now in
     let w = part_walk h (purpose_of c.args.asking) c.args.query.now c.args.part in
     let p = stands_in h.options c.args.part in
     let keys = c.args.keys.now in
@@ -70,12 +70,12 @@ loop-number-preserved-then-part_of_key-part g c =
       c.loop-number.invariant.0,
       c.loop-number.invariant.1,
       c.loop-number.invariant.2,
-      subst (λ (m : ℕ). Follows (g.T.Turns.sees c.args.turns.now) (g.T.Turns.sees c.loop-number.turns) (GoesGaining h w (start_of w) (at_key m (length (filter p keys))) c.args.gained.now c.loop-number.gained)) (sym same) c.loop-number.invariant.3,
+      subst (λ (m : ℕ). Follows (g.T.TryTurns.sees c.args.turns.now) (g.T.TryTurns.sees c.loop-number.turns) (GoesGaining h w (start_of w) (at_key m (length (filter p keys))) c.args.gained.now c.loop-number.gained)) (sym same) c.loop-number.invariant.3,
     )
 
 pub loop-number-preserved : goal.loop-number-preserved
 loop-number-preserved g c =
-    let h = g.T.Turns.home c.args.turns.now in
+    let h = g.T.TryTurns.home c.args.turns.now in
     let q = c.args.query.now in
     let purpose = purpose_of c.args.asking in
     let w = part_walk h purpose q c.args.part in
@@ -83,9 +83,9 @@ loop-number-preserved g c =
     let keys = c.args.keys.now in
     let ks = filter p keys in
     let n = c.loop-number.number in
-    let before = g.T.Turns.sees c.args.turns.now in
-    let now = g.T.Turns.sees c.loop-number.turns in
-    let later = g.T.Turns.sees c.visit_key.new.turns in
+    let before = g.T.TryTurns.sees c.args.turns.now in
+    let now = g.T.TryTurns.sees c.loop-number.turns in
+    let later = g.T.TryTurns.sees c.visit_key.new.turns in
     let key = c.index-keys-number-in-loop-number.result in
     let t = taken h.options c.options-parts.result c.args.part c.part_of_key.result n keys c.index-keys-number.result key c.loop-number-test.true c.index-keys-number.is c.index-keys-number-in-loop-number.is c.options-parts.ensures c.part_of_key.ensures.part c.if-part_of_key-part.false in
     let visit = subst (λ (home : Home). (next : Option Cursor) × Follows now later (Visited home c.args.part purpose q.code (Named key) next c.loop-number.gained c.visit_key.new.gained)) c.loop-number.invariant.1 c.in-Ok.ensures.done in
@@ -98,7 +98,7 @@ loop-number-preserved g c =
 
 pub returns-in-Err-clause-refused : goal.returns-in-Err-clause-refused
 returns-in-Err-clause-refused g c =
-    let h = g.T.Turns.home c.args.turns.now in
+    let h = g.T.TryTurns.home c.args.turns.now in
     let q = c.args.query.now in
     let purpose = purpose_of c.args.asking in
     let w = part_walk h purpose q c.args.part in
@@ -106,22 +106,22 @@ returns-in-Err-clause-refused g c =
     let keys = c.args.keys.now in
     let ks = filter p keys in
     let n = c.loop-number.number in
-    let before = g.T.Turns.sees c.args.turns.now in
-    let now = g.T.Turns.sees c.loop-number.turns in
-    let later = g.T.Turns.sees c.visit_key.new.turns in
+    let before = g.T.TryTurns.sees c.args.turns.now in
+    let now = g.T.TryTurns.sees c.loop-number.turns in
+    let later = g.T.TryTurns.sees c.visit_key.new.turns in
     let key = c.index-keys-number-in-loop-number.result in
     let t = taken h.options c.options-parts.result c.args.part c.part_of_key.result n keys c.index-keys-number.result key c.loop-number-test.true c.index-keys-number.is c.index-keys-number-in-loop-number.is c.options-parts.ensures c.part_of_key.ensures.part c.if-part_of_key-part.false in
     let same = c.visit_key.ensures.same ∙ c.loop-number.invariant.1 in
-    let legal = subst (λ (home : Home). (v : Views) → now v → AreLegal home.options v) c.loop-number.invariant.1 (λ v b part inside. g.met.T.Turns.legal c.loop-number.turns v part c.loop-number.invariant.0 b inside) in
-    let legal_later = subst (λ (home : Home). (v : Views) → later v → AreLegal home.options v) same (λ v b part inside. g.met.T.Turns.legal c.visit_key.new.turns v part c.visit_key.ensures.ready b inside) in
+    let legal = subst (λ (home : Home). (v : Views) → now v → AreLegal home.options v) c.loop-number.invariant.1 (λ v b part inside. g.met.T.TryTurns.legal c.loop-number.turns v part c.loop-number.invariant.0 b inside) in
+    let legal_later = subst (λ (home : Home). (v : Views) → later v → AreLegal home.options v) same (λ v b part inside. g.met.T.TryTurns.legal c.visit_key.new.turns v part c.visit_key.ensures.ready b inside) in
     let visit = subst (λ (home : Home). Follows now later (Missed home c.args.part purpose q.code (Named key) c.in-Err.field-0 c.loop-number.gained c.visit_key.new.gained)) c.loop-number.invariant.1 c.in-Err.ensures.refused in
-    misses_key h w ks (count_first p n keys) c.args.part key c.args.gained.now c.loop-number.gained c.visit_key.new.gained c.in-Err.field-0 before now later (record { options = refl; number = refl }) (part_is_walk h purpose q c.args.part (g.met.T.Turns.fits c.args.turns.now c.requires.ready) c.requires.part) (named_plan h.options c.args.part (plan_of q h.options) keys c.requires.named) t.inside t.is t.part_is legal legal_later c.loop-number.invariant.3 visit
+    misses_key h w ks (count_first p n keys) c.args.part key c.args.gained.now c.loop-number.gained c.visit_key.new.gained c.in-Err.field-0 before now later (record { options = refl; number = refl }) (part_is_walk h purpose q c.args.part (g.met.T.TryTurns.fits c.args.turns.now c.requires.ready) c.requires.part) (named_plan h.options c.args.part (plan_of q h.options) keys c.requires.named) t.inside t.is t.part_is legal legal_later c.loop-number.invariant.3 visit
 
 pub returns-clause-done : goal.returns-clause-done
 returns-clause-done g c =
-    let h = g.T.Turns.home c.args.turns.now in
+    let h = g.T.TryTurns.home c.args.turns.now in
     let w = part_walk h (purpose_of c.args.asking) c.args.query.now c.args.part in
     let p = stands_in h.options c.args.part in
     let keys = c.args.keys.now in
     let all = all_there p c.loop-number.number keys (omega (arith, c.loop-number-test.false)) in
-    subst (λ (at : Position). Follows (g.T.Turns.sees c.args.turns.now) (g.T.Turns.sees c.loop-number.turns) (GoesGaining h w (start_of w) at c.args.gained.now c.loop-number.gained)) (behind_keys (count_first p c.loop-number.number keys) (length (filter p keys)) all) c.loop-number.invariant.3
+    subst (λ (at : Position). Follows (g.T.TryTurns.sees c.args.turns.now) (g.T.TryTurns.sees c.loop-number.turns) (GoesGaining h w (start_of w) at c.args.gained.now c.loop-number.gained)) (behind_keys (count_first p c.loop-number.number keys) (length (filter p keys)) all) c.loop-number.invariant.3

@@ -10,22 +10,22 @@ use Rattle.parallel_select.proofs.worker.answer_parts.Goals as goal
 
 pub returns-in_default-clause-refused : goal.returns-in_default-clause-refused
 returns-in_default-clause-refused g c =
-    let h = g.T.Turns.home c.args.turns.now in
-    broken_at_once h (part_walk h Answers c.args.query.now) (is_share c.args.workers c.args.number) (g.T.Turns.sees c.args.turns.now)
+    let h = g.T.TryTurns.home c.args.turns.now in
+    broken_at_once h (part_walk h Answers c.args.query.now) (is_share c.args.workers c.args.number) (g.T.TryTurns.sees c.args.turns.now)
 
 pub loop-part-init : goal.loop-part-init
 loop-part-init g c =
-    let h = g.T.Turns.home c.args.turns.now in
+    let h = g.T.TryTurns.home c.args.turns.now in
     let none : c.in-Ok.lists.items ≡ [] = search rules in
     let room : h.options.parts ≤ c.in-Ok.lists.cap = search rules in
-    (c.requires.ready, refl, search rules, room, ap (λ (ls : List _). length (map vec_items ls)) none, works_nothing h (part_walk h Answers c.args.query.now) (is_share c.args.workers c.args.number) (answers_of (map vec_items c.in-Ok.lists.items)) (g.T.Turns.sees c.args.turns.now))
+    (c.requires.ready, refl, search rules, room, ap (λ (ls : List _). length (map vec_items ls)) none, works_nothing h (part_walk h Answers c.args.query.now) (is_share c.args.workers c.args.number) (answers_of (map vec_items c.in-Ok.lists.items)) (g.T.TryTurns.sees c.args.turns.now))
 
 pub returns-in-Err-clause-refused : goal.returns-in-Err-clause-refused
 returns-in-Err-clause-refused g c =
-    let h = g.T.Turns.home c.args.turns.now in
-    let before = g.T.Turns.sees c.args.turns.now in
-    let now = g.T.Turns.sees c.loop-part.turns in
-    let later = g.T.Turns.sees c.answer_part.new.turns in
+    let h = g.T.TryTurns.home c.args.turns.now in
+    let before = g.T.TryTurns.sees c.args.turns.now in
+    let now = g.T.TryTurns.sees c.loop-part.turns in
+    let later = g.T.TryTurns.sees c.answer_part.new.turns in
     let own = is_share c.args.workers c.args.number in
     let inside : c.loop-part.part < h.options.parts = omega (arith, c.loop-part-test.true, ap (λ (o : Options). o.parts) c.options-parts.ensures) in
     let ceases = subst (λ (home : Home). Follows now later (λ v u. (found : List Datum) × CeasesAt home (part_walk home Answers c.args.query.now) own c.loop-part.part found v u)) c.loop-part.invariant.1 c.in-Err.ensures.refused in
@@ -33,10 +33,10 @@ returns-in-Err-clause-refused g c =
 
 pub loop-part-preserved : goal.loop-part-preserved
 loop-part-preserved g c =
-    let h = g.T.Turns.home c.args.turns.now in
-    let before = g.T.Turns.sees c.args.turns.now in
-    let now = g.T.Turns.sees c.loop-part.turns in
-    let later = g.T.Turns.sees c.answer_part.new.turns in
+    let h = g.T.TryTurns.home c.args.turns.now in
+    let before = g.T.TryTurns.sees c.args.turns.now in
+    let now = g.T.TryTurns.sees c.loop-part.turns in
+    let later = g.T.TryTurns.sees c.answer_part.new.turns in
     let own = is_share c.args.workers c.args.number in
     let walk = part_walk h Answers c.args.query.now in
     let xs = map vec_items c.loop-part.lists.items in

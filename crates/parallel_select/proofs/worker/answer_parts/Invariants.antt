@@ -6,9 +6,9 @@ use Rattle.parallel_select.proofs.worker.answer_parts.Given as goal
 
 abbrev pub invariant-loop-part : goal.invariant-loop-part
 invariant-loop-part g l =
-    let h = g.T.Turns.home l.initial.turns in
-    g.T.Turns.is_ready l.turns × (g.T.Turns.home l.turns ≡ h)
+    let h = g.T.TryTurns.home l.initial.turns in
+    g.T.TryTurns.is_ready l.turns × (g.T.TryTurns.home l.turns ≡ h)
     × (vec_len l.lists ≡ l.part) × (h.options.parts ≤ vec_capacity l.lists)
     × (length (map vec_items l.lists.items) ≡ l.part)
-    × Follows (g.T.Turns.sees l.initial.turns) (g.T.Turns.sees l.turns)
+    × Follows (g.T.TryTurns.sees l.initial.turns) (g.T.TryTurns.sees l.turns)
     (λ v u. Works h (part_walk h Answers l.query) (is_share l.workers l.number) (answers_of (map vec_items l.lists.items)) v l.part u)

@@ -15,15 +15,15 @@ use Rattle.tables.proofs.calls.delete.Goals as goal
 
 pub done-requires : goal.done-requires
 done-requires g c =
-    let h = g.T.Turns.home c.args.turns.now in
-    never_refused h (part_of (settings_of h.options) c.args.key.now) (Delete c.args.key.now) (g.T.Turns.sees c.args.turns.now) (g.T.Turns.sees c.turn_by_key.new.turns) c.turn_by_key.result
-    (g.met.T.Turns.seen c.args.turns.now c.requires) c.turn_by_key.ensures.entry (c.turn_by_key.ensures.sure refl)
+    let h = g.T.TryTurns.home c.args.turns.now in
+    never_refused h (part_of (settings_of h.options) c.args.key.now) (Delete c.args.key.now) (g.T.TryTurns.sees c.args.turns.now) (g.T.TryTurns.sees c.turn_by_key.new.turns) c.turn_by_key.result
+    (g.met.T.TryTurns.seen c.args.turns.now c.requires) c.turn_by_key.ensures.entry (c.turn_by_key.ensures.sure (g.met.T.Turns.sure c.turn_by_key.new.turns) refl)
     (λ s. ap is_refused (delete_said (settings_of h.options) c.args.key.now s h.number))
 
 pub returns-clause-done : goal.returns-clause-done
 returns-clause-done g c =
-    let h = g.T.Turns.home c.args.turns.now in
+    let h = g.T.TryTurns.home c.args.turns.now in
     let part = part_of (settings_of h.options) c.args.key.now in
-    answered_as h part (Delete c.args.key.now) (Replied (said_of c.done.result)) (Replied Nothing) (g.T.Turns.sees c.args.turns.now) (g.T.Turns.sees c.turn_by_key.new.turns)
-    (subst (λ (r : Result (Reply _) Fault). Follows (g.T.Turns.sees c.args.turns.now) (g.T.Turns.sees c.turn_by_key.new.turns) (Turned h part (Delete c.args.key.now) (answer_in r))) c.done.ensures c.turn_by_key.ensures.entry)
+    answered_as h part (Delete c.args.key.now) (Replied (said_of c.done.result)) (Replied Nothing) (g.T.TryTurns.sees c.args.turns.now) (g.T.TryTurns.sees c.turn_by_key.new.turns)
+    (subst (λ (r : Result (Reply _) Fault). Follows (g.T.TryTurns.sees c.args.turns.now) (g.T.TryTurns.sees c.turn_by_key.new.turns) (Turned h part (Delete c.args.key.now) (answer_in r))) c.done.ensures c.turn_by_key.ensures.entry)
     (λ s. delete_said (settings_of h.options) c.args.key.now s h.number)

@@ -14,16 +14,16 @@ use Rattle.tables.proofs.calls.insert.Goals as goal
 
 pub returns-in-Ok-clause-done : goal.returns-in-Ok-clause-done
 returns-in-Ok-clause-done g c = λ v before.
-    let h = g.T.Turns.home c.args.turns.now in
-    let t = answered_as h c.in-Some.part (Insert c.args.object) (Replied (said_of c.in-Ok.reply)) (Replied Nothing) (g.T.Turns.sees c.args.turns.now) (g.T.Turns.sees c.turn.new.self)
-    (subst (λ (r : Result (Reply _) Fault). Follows (g.T.Turns.sees c.args.turns.now) (g.T.Turns.sees c.turn.new.self) (Turned h c.in-Some.part (Insert c.args.object) (answer_in r))) c.in-Ok.is c.turn.ensures.entry)
+    let h = g.T.TryTurns.home c.args.turns.now in
+    let t = answered_as h c.in-Some.part (Insert c.args.object) (Replied (said_of c.in-Ok.reply)) (Replied Nothing) (g.T.TryTurns.sees c.args.turns.now) (g.T.TryTurns.sees c.turn.new.self)
+    (subst (λ (r : Result (Reply _) Fault). Follows (g.T.TryTurns.sees c.args.turns.now) (g.T.TryTurns.sees c.turn.new.self) (Turned h c.in-Some.part (Insert c.args.object) (answer_in r))) c.in-Ok.is c.turn.ensures.entry)
     (λ s. insert_said (settings_of h.options) c.args.object c.in-Some.ensures.0 s h.number) v before in
     (t.0, t.1, (c.in-Some.ensures.0, subst (λ (p : ℕ). Turned h p (Insert c.args.object) (Some (Replied Nothing)) v t.0) c.in-Some.ensures.1 t.2))
 
 pub returns-in-Err-clause-refused : goal.returns-in-Err-clause-refused
 returns-in-Err-clause-refused g c = λ v before.
-    let h = g.T.Turns.home c.args.turns.now in
-    let t = only_memory h c.in-Some.part (Insert c.args.object) (g.T.Turns.sees c.args.turns.now) (g.T.Turns.sees c.turn.new.self) c.in-Err.field-0
-    (subst (λ (r : Result (Reply _) Fault). Follows (g.T.Turns.sees c.args.turns.now) (g.T.Turns.sees c.turn.new.self) (Turned h c.in-Some.part (Insert c.args.object) (answer_in r))) c.in-Err.is c.turn.ensures.entry)
+    let h = g.T.TryTurns.home c.args.turns.now in
+    let t = only_memory h c.in-Some.part (Insert c.args.object) (g.T.TryTurns.sees c.args.turns.now) (g.T.TryTurns.sees c.turn.new.self) c.in-Err.field-0
+    (subst (λ (r : Result (Reply _) Fault). Follows (g.T.TryTurns.sees c.args.turns.now) (g.T.TryTurns.sees c.turn.new.self) (Turned h c.in-Some.part (Insert c.args.object) (answer_in r))) c.in-Err.is c.turn.ensures.entry)
     (λ s. ap is_refused (insert_said (settings_of h.options) c.args.object c.in-Some.ensures.0 s h.number)) v before in
     (t.0, t.1, (c.in-Some.ensures.0, subst (λ (p : ℕ). Turned h p (Insert c.args.object) None v t.0) c.in-Some.ensures.1 t.2))

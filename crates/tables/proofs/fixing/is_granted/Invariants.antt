@@ -7,5 +7,5 @@ use Rattle.tables.proofs.fixing.is_granted.Given as goal
 
 abbrev pub invariant-loop-part : goal.invariant-loop-part
 invariant-loop-part g l =
-    (v : Views) → g.T.Turns.sees l.turns v → (k : ℕ) → k < l.part
-    → IsTrue (is_granted (act_of_change l.change) (fix_count (g.T.Turns.home l.turns).number (v k)))
+    (v : Views) → g.T.TryTurns.sees l.turns v → (k : ℕ) → k < l.part
+    → IsTrue (is_granted (act_of_change l.change) (fix_count (g.T.TryTurns.home l.turns).number (v k)))

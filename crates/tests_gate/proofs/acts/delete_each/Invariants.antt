@@ -3,4 +3,4 @@ use Rattle.tests_gate.proofs.acts.delete_each.Given as goal
 
 abbrev pub invariant-loop-place : goal.invariant-loop-place
 invariant-loop-place g l =
-    g.T.Turns.is_ready l.turns × (g.T.Turns.home l.turns ≡ g.T.Turns.home l.initial.turns)
+    g.T.TryTurns.is_ready l.turns × (g.T.TryTurns.home l.turns ≡ g.T.TryTurns.home l.initial.turns)

@@ -3,4 +3,4 @@ use Rattle.tests_gate.proofs.putting.are_found.Given as goal
 
 abbrev pub invariant-loop-object : goal.invariant-loop-object
 invariant-loop-object g l =
-    g.T.Turns.is_ready l.turns × (g.T.Turns.home l.turns ≡ g.T.Turns.home l.initial.turns)
+    g.T.TryTurns.is_ready l.turns × (g.T.TryTurns.home l.turns ≡ g.T.TryTurns.home l.initial.turns)

@@ -3,4 +3,4 @@ use Rattle.tests_walks.proofs.plays.fix_below.Given as goal
 
 abbrev pub invariant-loop-part : goal.invariant-loop-part
 invariant-loop-part g l =
-    g.T.Turns.is_ready l.session × (g.T.Turns.home l.session ≡ g.T.Turns.home l.initial.session)
+    g.T.TryTurns.is_ready l.session × (g.T.TryTurns.home l.session ≡ g.T.TryTurns.home l.initial.session)

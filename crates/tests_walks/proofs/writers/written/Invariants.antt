@@ -3,4 +3,4 @@ use Rattle.tests_walks.proofs.writers.written.Given as goal
 
 abbrev pub invariant-loop-write : goal.invariant-loop-write
 invariant-loop-write g l =
-    g.T.Turns.is_ready l.session × (g.T.Turns.home l.session ≡ g.T.Turns.home l.initial.session)
+    g.T.TryTurns.is_ready l.session × (g.T.TryTurns.home l.session ≡ g.T.TryTurns.home l.initial.session)

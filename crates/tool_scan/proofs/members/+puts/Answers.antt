@@ -10,4 +10,4 @@ put_both-join_mut-one-requires-send-F g t c κs within = search (sendable, cross
 
 pub put_both-returns : goal.put_both-returns
 put_both-returns g t c =
-    both_put g.T.Turns.is_ready g.T.Turns.home g.T.Turns.sees c.args.shares.now.objects.now c.args.shares.now.numbers.now c.args.number c.join_mut-one.result.0 c.in_ok-one.field-0 c.join_mut-one.result.1 c.args.first.now c.join_mut-one.new.f.2.now _ c.args.rest.now c.join_mut-one.new.g.2.now _ (search rules) (search rules) (search rules) c.join_mut-one.ensures.0.met.1 c.join_mut-one.ensures.1.met.1
+    both_put g.T.TryTurns.is_ready g.T.TryTurns.home g.T.TryTurns.sees c.args.shares.now.objects.now c.args.shares.now.numbers.now c.args.number c.join_mut-one.result.0 c.in_ok-one.field-0 c.join_mut-one.result.1 c.args.first.now c.join_mut-one.new.f.2.now _ c.args.rest.now c.join_mut-one.new.g.2.now _ (search rules) (search rules) (search rules) c.join_mut-one.ensures.0.met.1 c.join_mut-one.ensures.1.met.1

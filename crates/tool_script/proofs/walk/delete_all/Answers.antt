@@ -8,14 +8,14 @@ use Rattle.tool_script.proofs.walk.delete_all.Goals as goal
 
 pub returns-in-Ok-select_delete-clause-answered : goal.returns-in-Ok-select_delete-clause-answered
 returns-in-Ok-select_delete-clause-answered g c = λ walks.
-    let turns = g.T.Turns in
+    let turns = g.T.TryTurns in
     let h = turns.home c.args.turns.now in
-    removed c.whole_walks_remove.ensures h (turns.sees c.args.turns.now) (turns.sees c.select_delete.new.turns) walks c.args.term.now c.in-Ok.query c.in-Ok-select_delete.count c.requires.alone (g.met.T.Turns.fits c.args.turns.now c.requires.ready).0
+    removed c.whole_walks_remove.ensures h (turns.sees c.args.turns.now) (turns.sees c.select_delete.new.turns) walks c.args.term.now c.in-Ok.query c.in-Ok-select_delete.count c.requires.alone (g.met.T.TryTurns.fits c.args.turns.now c.requires.ready).0
     (c.in-Ok.ensures.ok h.options (ap (λ (x : Options). x.keypos) (sym c.options.ensures))) c.in-Ok-select_delete.ensures.done
 
 pub returns-in-Err-clause-answered : goal.returns-in-Err-clause-answered
 returns-in-Err-clause-answered g c =
-    let turns = g.T.Turns in
+    let turns = g.T.TryTurns in
     let h = turns.home c.args.turns.now in
     IfOk-weaker c.refusal.result _ _ (λ reply told walks count w at. faulty h.options (turns.sees c.args.turns.now) walks c.args.term.now c.in-Err.fault removal_step (reply_term reply) count w told c.in-Err.ensures.refused at)
     c.refusal.ensures

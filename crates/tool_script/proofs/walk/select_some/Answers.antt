@@ -13,7 +13,7 @@ use Rattle.tool_script.proofs.walk.select_some.Goals as goal
 
 pub returns-in-Ok-clause-answered : goal.returns-in-Ok-clause-answered
 returns-in-Ok-clause-answered g c =
-    let turns = g.T.Turns in
+    let turns = g.T.TryTurns in
     let h = turns.home c.args.turns.now in
     let o = h.options in
     let q = c.in-Ok.query in
@@ -25,7 +25,7 @@ returns-in-Ok-clause-answered g c =
 
 pub returns-in-Err-clause-answered : goal.returns-in-Err-clause-answered
 returns-in-Err-clause-answered g c =
-    let turns = g.T.Turns in
+    let turns = g.T.TryTurns in
     let h = turns.home c.args.turns.now in
     let fits : FitsSigned w64 c.args.limit = search rules in
     let limited : limit_in c.args.limit ≡ Some c.in-Some.limit = ap limit_in (sym (to_z-of_z w64 c.args.limit fits)) ∙ sym c.limit_in.ensures.limit ∙ c.in-Some.is in

@@ -5,5 +5,5 @@ use Rattle.walks.proofs.own.release_own.Given as goal
 
 abbrev pub invariant-loop-part : goal.invariant-loop-part
 invariant-loop-part g l =
-    g.T.Turns.is_ready l.turns × (g.T.Turns.home l.turns ≡ g.T.Turns.home l.initial.turns)
-    × Follows (g.T.Turns.sees l.initial.turns) (g.T.Turns.sees l.turns) (ReleasedBelow (g.T.Turns.home l.initial.turns) l.own l.part)
+    g.T.TryTurns.is_ready l.turns × (g.T.TryTurns.home l.turns ≡ g.T.TryTurns.home l.initial.turns)
+    × Follows (g.T.TryTurns.sees l.initial.turns) (g.T.TryTurns.sees l.turns) (ReleasedBelow (g.T.TryTurns.home l.initial.turns) l.own l.part)

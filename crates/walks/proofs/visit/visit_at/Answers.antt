@@ -4,5 +4,5 @@ use Rattle.walks.proofs.visit.visit_at.Goals as goal
 
 pub found-requires : goal.found-requires
 found-requires g c =
-    visit_found (g.T.Turns.home c.args.turns.now) c.args.part c.args.code.now (scope_of c.args.scope) c.args.wanted (said_of c.in_ok-reply.reply)
-    (g.T.Turns.sees c.args.turns.now) (g.T.Turns.sees c.turn_at.new.turns) (g.met.T.Turns.seen c.args.turns.now c.requires.ready) c.in_ok-reply.ensures.entry
+    visit_found (g.T.TryTurns.home c.args.turns.now) c.args.part c.args.code.now (scope_of c.args.scope) c.args.wanted (said_of c.in_ok-reply.reply)
+    (g.T.TryTurns.sees c.args.turns.now) (g.T.TryTurns.sees c.turn_at.new.turns) (g.met.T.TryTurns.seen c.args.turns.now c.requires.ready) c.in_ok-reply.ensures.entry

@@ -18,10 +18,10 @@ use Rattle.walks.proofs.whole.gather.Goals as goal
 
 pub returns-clause-done : goal.returns-clause-done
 returns-clause-done g c =
-    let h = g.T.Turns.home c.args.turns.now in
+    let h = g.T.TryTurns.home c.args.turns.now in
     let w = walk_of h Answers c.args.query.now in
-    let before = g.T.Turns.sees c.args.turns.now in
-    let now = g.T.Turns.sees c.next_piece.new.turns in
+    let before = g.T.TryTurns.sees c.args.turns.now in
+    let now = g.T.TryTurns.sees c.next_piece.new.turns in
     let at : position_of c.start-at.result ≡ start_by (plan_of c.args.query.now h.options) 0 h.options.parts = c.start-at.ensures.at in
     ok_both c.next_piece.result
     (λ answers. Follows before now (GoesBy h w (up_to most_counted) (position_of c.start-at.result) (kept_of c.new-kept.result) (position_of c.next_piece.new.at) (answers.items ++ kept_of c.next_piece.new.kept)))
@@ -29,17 +29,17 @@ returns-clause-done g c =
     (λ answers. Follows before now (λ v u. Stops h w (up_to most_counted) (way v (start_by (plan_of c.args.query.now h.options) 0 h.options.parts) []) Over answers.items u))
     (λ answers goes piece.
     let ends = piece.fewer (few_in_memory answers.len answers.cap _ answers.ok.0 answers.ok.1 answers.small) in
-    ends_there h w (up_to most_counted) (start_by (plan_of c.args.query.now h.options) 0 h.options.parts) answers.items before now (record { options = refl; number = refl }) (is_walk h Answers c.args.query.now (g.met.T.Turns.fits c.args.turns.now c.requires)) (λ v b part inside. g.met.T.Turns.legal c.args.turns.now v part c.requires b inside) (gathered_by h w (up_to most_counted) (position_of c.start-at.result) (start_by (plan_of c.args.query.now h.options) 0 h.options.parts) (position_of c.next_piece.new.at) (kept_of c.new-kept.result) (kept_of c.next_piece.new.kept) answers.items before now at c.new-kept.ensures.none ends.0 ends.1 goes))
+    ends_there h w (up_to most_counted) (start_by (plan_of c.args.query.now h.options) 0 h.options.parts) answers.items before now (record { options = refl; number = refl }) (is_walk h Answers c.args.query.now (g.met.T.TryTurns.fits c.args.turns.now c.requires)) (λ v b part inside. g.met.T.TryTurns.legal c.args.turns.now v part c.requires b inside) (gathered_by h w (up_to most_counted) (position_of c.start-at.result) (start_by (plan_of c.args.query.now h.options) 0 h.options.parts) (position_of c.next_piece.new.at) (kept_of c.new-kept.result) (kept_of c.next_piece.new.kept) answers.items before now at c.new-kept.ensures.none ends.0 ends.1 goes))
     c.next_piece.ensures.done c.next_piece.ensures.piece
 
 pub returns-clause-stopped : goal.returns-clause-stopped
 returns-clause-stopped g c =
-    let h = g.T.Turns.home c.args.turns.now in
+    let h = g.T.TryTurns.home c.args.turns.now in
     let q = c.args.query.now in
     let w = walk_of h Answers q in
-    let before = g.T.Turns.sees c.args.turns.now in
-    let now = g.T.Turns.sees c.next_piece.new.turns in
-    let fits = g.met.T.Turns.fits c.args.turns.now c.requires in
+    let before = g.T.TryTurns.sees c.args.turns.now in
+    let now = g.T.TryTurns.sees c.next_piece.new.turns in
+    let fits = g.met.T.TryTurns.fits c.args.turns.now c.requires in
     let at : position_of c.start-at.result ≡ start_by (plan_of c.args.query.now h.options) 0 h.options.parts = c.start-at.ensures.at in
     let later = position_of c.next_piece.new.at in
     let kept = kept_of c.next_piece.new.kept in
@@ -48,7 +48,7 @@ returns-clause-stopped g c =
     (λ fault. fault ≢ Memory → (fault ≡ StrangerContinuation) × ((v : Views) → before v → IsPosition w v (position_of c.start-at.result) → ⊥))
     (λ fault. Follows before now (StopsAnywhere h w (up_to most_counted)))
     (λ fault stops foreign.
-    let scarce = only_scarce h q (start_by (plan_of c.args.query.now h.options) 0 h.options.parts) fault before (g.met.T.Turns.seen c.args.turns.now c.requires) (λ v b. starts_well h q v fits) (subst (λ (p : Position). fault ≢ Memory → (fault ≡ StrangerContinuation) × ((v : Views) → before v → IsPosition w v p → ⊥)) at foreign) in
+    let scarce = only_scarce h q (start_by (plan_of c.args.query.now h.options) 0 h.options.parts) fault before (g.met.T.TryTurns.seen c.args.turns.now c.requires) (λ v b. starts_well h q v fits) (subst (λ (p : Position). fault ≢ Memory → (fault ≡ StrangerContinuation) × ((v : Views) → before v → IsPosition w v p → ⊥)) at foreign) in
     λ v b.
     let f = subst (λ (p : Position). Follows before now (λ x y. Stops h w (up_to most_counted) (way x p []) later kept y)) at (subst (λ (ys : List Datum). Follows before now (λ x y. Stops h w (up_to most_counted) (way x (position_of c.start-at.result) ys) later kept y)) c.new-kept.ensures.none (stops scarce)) v b in
     (f.0, f.1, (later, kept, f.2)))

@@ -1,0 +1,2 @@
+pub use Rattle.part_hash.proofs.SendLemmas
+pub use Rattle.tables.proofs.OpenedLemmas

@@ -1,0 +1,7 @@
+mod PartLemmas
+mod LinkLemmas
+mod CallLemmas
+mod KeyLemmas
+mod StopLemmas
+mod WalkLemmas
+mod ShowLemmas
