@@ -1,0 +1,5 @@
+mod DoesLemmas
+mod StopLemmas
+mod WalkLemmas
+mod TallyLemmas
+mod SearchLemmas

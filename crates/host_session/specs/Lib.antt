@@ -1,0 +1,5 @@
+pub mod Stops
+pub mod Host
+pub mod Once
+pub mod Begun
+pub mod Going

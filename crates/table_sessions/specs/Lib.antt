@@ -1,0 +1,2 @@
+pub mod OpenedFact
+pub mod Own
